@@ -1,3 +1,5 @@
 pub mod Count
+pub mod Table
 pub mod Tabulate
+pub mod Total
 pub mod Written

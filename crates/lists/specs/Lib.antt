@@ -1,3 +1,4 @@
 pub mod Count
 pub mod Tabulate
+pub mod Total
 pub mod Written

@@ -1,0 +1,5 @@
+// BAM records as the caller reads them: flags and CIGARs.
+pub mod cigar;
+pub mod flags;
+pub mod operation;
+pub mod read_pos;
