@@ -1,4 +1,5 @@
 pub mod Count
+pub mod Reverse
 pub mod Table
 pub mod Tabulate
 pub mod Total

@@ -2,4 +2,6 @@
 pub mod cigar;
 pub mod flags;
 pub mod operation;
+pub mod prefix;
 pub mod read_pos;
+pub mod simplified;
