@@ -1,15 +1,16 @@
 -- Laws of joining neighbours.
 use mathlib.Core.Bool.{Bool, true, false, cond}
-use mathlib.Core.List.{List, [], _∷_, _++_, reverse, reverse-cons, append-assoc}
+use mathlib.Core.List.{List, [], _∷_, _++_, map, reverse, reverse-cons, append-assoc}
 use mathlib.Core.Path.{_≡_, refl, sym, _∙_, ap, ap₂, subst}
-use Prim.Native.Nat.{ℕ, _+_, _≤_, zero-le}
+use Prim.Native.Nat.{ℕ, suc, _+_, _≤_, zero-le, suc-le-suc}
 use native.Mathlib.Nat.{le-refl}
 use native.Mathlib.Omega.{arith}
 use borrow.Author.Tests.{eqb-true, eqb-false, eq-eqb, ne-eqb}
 use lib.Dec.{eqb}
+use lib.ListN.{length, length-map, length-reverse}
 use Rattle.lists.specs.Total.{total}
 use Rattle.raw_bam.specs.Cigar.{opLength, opCode}
-use Rattle.raw_bam.specs.Simplified.{kindOf, join, prepend, joined}
+use Rattle.raw_bam.specs.Simplified.{kindOf, simpleEntry, join, prepend, joined, simplified}
 
 -- a kind is no larger than the code that it is made of
 pub kind-le : (code : ℕ) → kindOf code ≤ code
@@ -106,3 +107,22 @@ total-joined (x ∷ xs) = put (joined xs) ∙ ap (λ (n : ℕ). opLength x + n) 
     put : (ys : List ℕ) → total opLength (prepend x ys) ≡ opLength x + total opLength ys
     put [] = refl
     put (y ∷ ys) = by-kind y ys (eqb (opCode x) (opCode y))
+
+length-joined : (xs : List ℕ) → length (joined xs) ≤ length xs
+unfolding joined prepend
+length-joined [] = zero-le
+length-joined (x ∷ xs) = put (joined xs) (length-joined xs)
+  where
+    by-kind : (y : ℕ) (ys : List ℕ) (xy : Bool) → length (y ∷ ys) ≤ length xs → length (cond xy (join x y ∷ ys) (x ∷ y ∷ ys)) ≤ suc (length xs)
+    by-kind y ys true h = omega arith
+    by-kind y ys false h = omega arith
+
+    put : (ys : List ℕ) → length ys ≤ length xs → length (prepend x ys) ≤ suc (length xs)
+    put [] h = suc-le-suc zero-le
+    put (y ∷ ys) h = by-kind y ys (eqb (opCode x) (opCode y)) h
+
+-- a simplified list is no longer than the list
+pub length-simplified : (isReverse : Bool) (ops : List ℕ) → length (simplified isReverse ops) ≤ length ops
+unfolding simplified
+length-simplified true ops = rw (length-reverse (joined (map simpleEntry ops)), ← length-map ops simpleEntry) (length-joined (map simpleEntry ops))
+length-simplified false ops = rw (← length-map ops simpleEntry) (length-joined (map simpleEntry ops))
