@@ -1,15 +1,16 @@
 -- Laws of joining neighbours.
 use mathlib.Core.Bool.{Bool, true, false, cond}
-use mathlib.Core.List.{List, [], _∷_, _++_, reverse, reverse-cons, append-assoc}
-use mathlib.Core.Path.{_≡_, refl, sym, _∙_, ap, ap₂, subst}
+use mathlib.Core.List.{List, [], _∷_, _++_, map, reverse, reverse-cons, append-assoc}
+use mathlib.Core.Path.{_≡_, refl, sym, _∙_, ap}
 use Prim.Native.Nat.{ℕ, _+_, _≤_, zero-le}
 use native.Mathlib.Nat.{le-refl}
 use native.Mathlib.Omega.{arith}
 use borrow.Author.Tests.{eqb-true, eqb-false, eq-eqb, ne-eqb}
 use lib.Dec.{eqb}
 use Rattle.lists.specs.Total.{total}
+use Rattle.lists.proofs.Total.{total-reverse}
 use Rattle.raw_bam.specs.Cigar.{opLength, opCode}
-use Rattle.raw_bam.specs.Simplified.{kindOf, join, prepend, joined}
+use Rattle.raw_bam.specs.Simplified.{kindOf, simpleEntry, join, prepend, joined, simplified}
 
 -- a kind is no larger than the code that it is made of
 pub kind-le : (code : ℕ) → kindOf code ≤ code
@@ -106,3 +107,14 @@ total-joined (x ∷ xs) = put (joined xs) ∙ ap (λ (n : ℕ). opLength x + n) 
     put : (ys : List ℕ) → total opLength (prepend x ys) ≡ opLength x + total opLength ys
     put [] = refl
     put (y ∷ ys) = by-kind y ys (eqb (opCode x) (opCode y))
+
+total-simple : (words : List ℕ) → total opLength (map simpleEntry words) ≡ total opLength words
+unfolding total simpleEntry
+total-simple [] = refl
+total-simple (word ∷ words) = omega (arith, total-simple words, kind-le (opCode word))
+
+-- simplifying keeps the lengths
+pub total-simplified : (isReverse : Bool) (ops : List ℕ) → total opLength (simplified isReverse ops) ≡ total opLength ops
+unfolding simplified
+total-simplified true ops = rw (total-reverse, total-joined) (total-simple ops)
+total-simplified false ops = rw total-joined (total-simple ops)
