@@ -1,5 +1,5 @@
 -- Laws of reversing.
-use mathlib.Core.List.{List, [], _∷_, _++_, map, map-append, reverse, reverse-cons}
+use mathlib.Core.List.{List, [], _∷_, map, map-append, reverse, reverse-cons}
 use mathlib.Core.Logic.{⊎-elim}
 use mathlib.Core.Path.{_≡_, refl, sym, _∙_}
 use Prim.Native.Nat.{ℕ, suc, _-_, _<_}

@@ -1,6 +1,6 @@
 -- Laws of a sum over a list.
-use mathlib.Core.List.{List, [], _∷_, _++_}
-use mathlib.Core.Path.{_≡_}
+use mathlib.Core.List.{List, [], _∷_, _++_, reverse, reverse-cons}
+use mathlib.Core.Path.{_≡_, refl}
 use Prim.Native.Nat.{ℕ, _+_, _<_}
 use native.Mathlib.Numerals.{add-one}
 use native.Mathlib.Omega.{arith}
@@ -18,3 +18,8 @@ module _ {A : Type 0} (f : A → ℕ) where
   pub total-more : (xs : List A) (i : ℕ) (d : A) → i < length xs → total f (take (i + 1) xs) ≡ total f (take i xs) + f (getD xs i d)
   unfolding total
   total-more xs i d h = rw (add-one, take-suc xs i d, total-append) (omega arith)
+
+  pub total-reverse : (xs : List A) → total f (reverse xs) ≡ total f xs
+  unfolding total
+  total-reverse [] = refl
+  total-reverse (x ∷ xs) = rw (reverse-cons x xs, total-append, total-reverse xs) (omega arith)

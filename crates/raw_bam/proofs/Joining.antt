@@ -1,7 +1,7 @@
 -- Laws of joining neighbours.
 use mathlib.Core.Bool.{Bool, true, false, cond}
 use mathlib.Core.List.{List, [], _∷_, _++_, map, reverse, reverse-cons, append-assoc}
-use mathlib.Core.Path.{_≡_, refl, sym, _∙_, ap, ap₂, subst}
+use mathlib.Core.Path.{_≡_, refl, sym, _∙_, ap}
 use Prim.Native.Nat.{ℕ, suc, _+_, _≤_, zero-le, suc-le-suc}
 use native.Mathlib.Nat.{le-refl}
 use native.Mathlib.Omega.{arith}
@@ -9,6 +9,7 @@ use borrow.Author.Tests.{eqb-true, eqb-false, eq-eqb, ne-eqb}
 use lib.Dec.{eqb}
 use lib.ListN.{length, length-map, length-reverse}
 use Rattle.lists.specs.Total.{total}
+use Rattle.lists.proofs.Total.{total-reverse}
 use Rattle.raw_bam.specs.Cigar.{opLength, opCode}
 use Rattle.raw_bam.specs.Simplified.{kindOf, simpleEntry, join, prepend, joined, simplified}
 
@@ -126,3 +127,14 @@ pub length-simplified : (isReverse : Bool) (ops : List ℕ) → length (simplifi
 unfolding simplified
 length-simplified true ops = rw (length-reverse (joined (map simpleEntry ops)), ← length-map ops simpleEntry) (length-joined (map simpleEntry ops))
 length-simplified false ops = rw (← length-map ops simpleEntry) (length-joined (map simpleEntry ops))
+
+total-simple : (words : List ℕ) → total opLength (map simpleEntry words) ≡ total opLength words
+unfolding total simpleEntry
+total-simple [] = refl
+total-simple (word ∷ words) = omega (arith, total-simple words, kind-le (opCode word))
+
+-- simplifying keeps the lengths
+pub total-simplified : (isReverse : Bool) (ops : List ℕ) → total opLength (simplified isReverse ops) ≡ total opLength ops
+unfolding simplified
+total-simplified true ops = rw (total-reverse, total-joined) (total-simple ops)
+total-simplified false ops = rw total-joined (total-simple ops)

@@ -1,15 +1,16 @@
 -- Laws of the prefix and of the order of two lists.
-use mathlib.Core.Bool.{Bool, true, false, cond}
+use mathlib.Core.Bool.{Bool, true, false, cond, false≢true}
 use mathlib.Core.List.{List, [], _∷_}
-use mathlib.Core.Path.{_≡_, refl, sym, _∙_, ap, subst}
-use Prim.Native.Nat.{ℕ, zero, suc, _+_, _≤_, _<_}
+use mathlib.Core.Path.{_≡_, refl, sym, _∙_}
+use Prim.Native.Nat.{ℕ, suc, _+_, _≤_, _<_}
 use native.Mathlib.Nat.{le-of-suc-le-suc, not-suc-le-zero}
 use native.Mathlib.Numerals.{add-one}
 use native.Mathlib.Omega.{arith}
-use borrow.Author.Tests.{ltb-true, ltb-false, leb-true, eqb-true, eqb-false, lt-ltb, le-ltb, le-leb, eq-eqb, ne-eqb}
+use borrow.Author.Tests.{ltb-true, ltb-false, leb-true, eqb-true, eqb-false, lt-ltb, le-ltb, le-leb, eq-eqb}
 use lib.Dec.{eqb, leb, ltb}
 use lib.ListN.{length, drop, getD, drop-of-length-le}
 use lib.Seq.{drop-cons}
+use Rattle.lists.proofs.Cases.{both-true}
 use Rattle.raw_bam.specs.Cigar.{opLength, opCode}
 use Rattle.raw_bam.specs.Prefix.{fitsLast, isPrefix, entryBefore, smaller}
 
@@ -49,6 +50,28 @@ unfolding isPrefix
 prefix-self [] = refl
 prefix-self (x ∷ []) = rw (eq-eqb (opCode x) (opCode x) refl) (le-leb (opLength x) (opLength x) (omega arith))
 prefix-self (x ∷ x′ ∷ xs) = rw (eq-eqb x x refl) (prefix-self (x′ ∷ xs))
+
+fits-trans : (x y z : ℕ) → fitsLast x y ≡ true → fitsLast y z ≡ true → fitsLast x z ≡ true
+fits-trans x y z p q =
+    let xy = both-true (eqb (opCode x) (opCode y)) (leb (opLength x) (opLength y)) p in
+    let yz = both-true (eqb (opCode y) (opCode z)) (leb (opLength y) (opLength z)) q in
+    rw (eq-eqb (opCode x) (opCode z) (eqb-true (opCode x) (opCode y) (xy .0) ∙ eqb-true (opCode y) (opCode z) (yz .0)))
+    (le-leb (opLength x) (opLength z) (omega (arith, leb-true (opLength x) (opLength y) (xy .1), leb-true (opLength y) (opLength z) (yz .1))))
+
+-- a prefix of a prefix is a prefix
+pub prefix-trans : (xs ys zs : List ℕ) → isPrefix xs ys ≡ true → isPrefix ys zs ≡ true → isPrefix xs zs ≡ true
+unfolding isPrefix
+prefix-trans [] ys zs p q = refl
+prefix-trans (x ∷ xs) [] zs p q = absurd (false≢true p)
+prefix-trans (x ∷ xs) (y ∷ ys) [] p q = absurd (false≢true q)
+prefix-trans (x ∷ []) (y ∷ []) (z ∷ zs) p q = fits-trans x y z p q
+prefix-trans (x ∷ []) (y ∷ y′ ∷ ys) (z ∷ zs) p q =
+    rw (eqb-true y z (both-true (eqb y z) (isPrefix (y′ ∷ ys) zs) q .0)) at p
+prefix-trans (x ∷ x′ ∷ xs) (y ∷ []) (z ∷ zs) p q = absurd (false≢true (both-true (eqb x y) false p .1))
+prefix-trans (x ∷ x′ ∷ xs) (y ∷ y′ ∷ ys) (z ∷ zs) p q =
+    let xy = both-true (eqb x y) (isPrefix (x′ ∷ xs) (y′ ∷ ys)) p in
+    let yz = both-true (eqb y z) (isPrefix (y′ ∷ ys) zs) q in
+    rw (eq-eqb x z (eqb-true x y (xy .0) ∙ eqb-true y z (yz .0))) (prefix-trans (x′ ∷ xs) (y′ ∷ ys) zs (xy .1) (yz .1))
 
 -- as words, entries compare by length and then by code
 entry-order : (x y : ℕ) → entryBefore x y ≡ ltb x y

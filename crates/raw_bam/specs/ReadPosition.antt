@@ -46,3 +46,8 @@ positionAt askLast before (word ∷ words) k =
 -- of a record that starts at a reference position
 unfoldable pub readPosition : Bool → List ℕ → ℕ → ℕ → ReadPos
 readPosition askLast ops start position = cond (ltb position start) NoBase (positionAt askLast [] ops (position - start))
+
+-- the reference base k, from 0, of the operations lies inside D or N
+unfoldable pub isSkipped : List ℕ → ℕ → Bool
+isSkipped [] k = false
+isSkipped (word ∷ words) k = cond (ltb k (referenceBases word)) (cond (isAligned word) false true) (isSkipped words (k - referenceBases word))

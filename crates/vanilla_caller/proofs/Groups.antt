@@ -5,13 +5,12 @@ use mathlib.Core.Path.{_≡_, refl, sym, _∙_, ap, ap₂}
 use Prim.Native.Nat.{ℕ, _+_, _<_}
 use native.Mathlib.Numerals.{add-one}
 use native.Mathlib.Omega.{arith}
-use borrow.Author.Tests.{lt-ltb}
 use lib.ListN.{length, drop, getD}
 use lib.Seq.{drop-cons}
 use Rattle.raw_bam.specs.Prefix.{isPrefix}
 use Rattle.raw_bam.proofs.Prefixes.{prefix-self}
 use Rattle.vanilla_caller.specs.Founding.{fitsFirst, matches, founded, groupAt}
-use Rattle.vanilla_caller.specs.Group.{Group, join, fitsAny, enter, entered, beats, winner, noGroup}
+use Rattle.vanilla_caller.specs.Group.{Group, join, fitsAny, enter, entered}
 
 module _ (lists : ℕ → List ℕ) where
   abbrev first-of : Group → List ℕ

@@ -3,7 +3,7 @@ use raw_bam::prefix::is_cigar_prefix;
 use raw_bam::prefix::is_cigar_smaller;
 use raw_bam::simplified::simplify_cigar_from_raw;
 ghost use mathlib.Core.Path.{_≡_};
-ghost use Prim.Native.Nat.{_≤_, _<_};
+ghost use Prim.Native.Nat.{_≤_};
 ghost use lib.ListN.{length};
 ghost use Rattle.lists.specs.Written.{written};
 ghost use Rattle.raw_bam.specs.Prefix.{isPrefix, smaller};

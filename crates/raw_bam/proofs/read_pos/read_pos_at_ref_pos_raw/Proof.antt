@@ -1,7 +1,7 @@
 -- The walk over the operations: what is left of the definition at the place reached is what was asked at the start.
-use mathlib.Core.List.{List, [], _∷_, _++_}
-use mathlib.Core.Path.{_≡_, refl, sym, _∙_, ap}
-use Prim.Native.Nat.{ℕ, suc, _+_, _*_, _-_, _≤_, _<_}
+use mathlib.Core.List.{[]}
+use mathlib.Core.Path.{_≡_, sym, _∙_}
+use Prim.Native.Nat.{_*_, _-_, _≤_}
 use native.Mathlib.Numerals.{add-one}
 use native.Mathlib.Omega.{arith}
 use borrow.Author.Needs.{needs}
@@ -10,7 +10,7 @@ use lib.ListN.{length, take, drop, getD, drop-of-length-le}
 use lib.Seq.{take-suc}
 use Rattle.lists.specs.Total.{total}
 use Rattle.lists.proofs.Total.{total-more}
-use Rattle.raw_bam.specs.Cigar.{readBases, referenceBases, readLength}
+use Rattle.raw_bam.specs.Cigar.{readBases, readLength}
 use Rattle.raw_bam.specs.ReadPosition.{lastAligned, positionAt, readPosition}
 use Rattle.raw_bam.proofs.Positions.{lastAligned-more, position-here, position-on}
 use Rattle.raw_bam.proofs.read_pos.read_pos_at_ref_pos_raw.Statement.{statement}

@@ -1,12 +1,12 @@
 -- The records of the group that were passed are marked, and with those still to come they are the group.
-use mathlib.Core.Bool.{Bool, true, false, cond}
+use mathlib.Core.Bool.{Bool, true, false}
 use mathlib.Core.List.{List, [], _∷_, _++_, append-assoc, append-nil}
 use mathlib.Core.Logic.{⊎-elim}
 use mathlib.Core.Path.{_≡_, refl, sym, _∙_, ap}
-use Prim.Native.Nat.{ℕ, _+_, _-_, _≤_, _<_}
+use Prim.Native.Nat.{ℕ, _+_, _-_, _≤_}
 use native.Mathlib.Omega.{arith}
 use borrow.Author.Needs.{needs}
-use lib.ListN.{length, take, drop, getD, drop-of-length-le, length-set}
+use lib.ListN.{length, take, drop, getD, drop-of-length-le}
 use Rattle.lists.specs.Tabulate.{tabulate}
 use Rattle.lists.specs.Written.{written}
 use Rattle.lists.proofs.Tabulate.{length-tabulate, set-tabulate}
