@@ -1,11 +1,15 @@
 // Outside vectors over CIGARs, one line for each, held to what was worked out from the documents.
+mod group;
 mod show;
 mod text;
 
+use group::Read;
+use group::show_group;
 use show::show_cigar;
 use show::show_pair;
 use show::show_positions;
 use show::show_repeated;
+ghost use mathlib.Core.Path.{_≡_};
 
 // The alignments of the SAM specification's own example (section 1.1), from before the start to past the end.
 fn sam_example() {
@@ -100,6 +104,69 @@ fn ties() {
     show_pair(b"268435455M1I", b"268435455H1S1I");
 }
 
+fn forward(count: u32, clipped: u32) -> Read
+    ensures { λ r. ⌜ r .count ≡ count ⌝ }
+{
+    Read {
+        count,
+        clipped,
+        reverse: false,
+    }
+}
+
+fn backward(count: u32, clipped: u32) -> Read
+    ensures { λ r. ⌜ r .count ≡ count ⌝ }
+{
+    Read {
+        count,
+        clipped,
+        reverse: true,
+    }
+}
+
+// The first is document 01's case G1: the third joins both groups, and the smaller first list wins.
+fn groups() {
+    show_group(
+        b"6M2D6M6M1I5M5M",
+        forward(3, 12),
+        forward(3, 12),
+        forward(1, 5),
+    );
+    show_group(
+        b"5M6M1I5M6M2D6M",
+        forward(1, 5),
+        forward(3, 12),
+        forward(3, 12),
+    );
+    show_group(b"10M10M9M", forward(1, 10), forward(1, 10), forward(1, 9));
+    show_group(
+        b"10M5M1I4M5M1D5M",
+        forward(1, 10),
+        forward(3, 10),
+        forward(3, 10),
+    );
+    show_group(
+        b"5M2D3M2I3M2D5M",
+        forward(3, 8),
+        backward(1, 2),
+        backward(3, 8),
+    );
+    show_group(b"5M3M100H5M", forward(1, 5), forward(2, 3), forward(1, 5));
+    show_group(b"3M100H5M5M", forward(2, 3), forward(1, 5), forward(1, 5));
+    show_group(
+        b"5M1D1M5M1I1M4M",
+        forward(3, 6),
+        forward(3, 7),
+        forward(1, 4),
+    );
+    show_group(
+        b"2M1I3M3M1I2M4M1D1M",
+        backward(3, 6),
+        forward(3, 6),
+        forward(3, 5),
+    );
+}
+
 fn main() {
     sam_example();
     last_bases();
@@ -107,4 +174,5 @@ fn main() {
     simplified_lists();
     prefixes();
     ties();
+    groups();
 }

@@ -13,7 +13,7 @@ ghost use Prim.Native.Nat.{_≤_};
 ghost use lib.ListN.{length};
 ghost use Rattle.io.specs.Counts.{Counts};
 
-fn put(text: &[u8]) {
+pub fn put(text: &[u8]) {
     io::write_all(STDOUT_FILENO, text);
 }
 
@@ -21,7 +21,7 @@ fn put_number(n: u64) {
     io::print_decimal(STDOUT_FILENO, n);
 }
 
-fn put_answer(what: &[u8], yes: bool) {
+pub fn put_answer(what: &[u8], yes: bool) {
     put(what);
     if yes {
         put(b" yes");
