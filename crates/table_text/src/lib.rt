@@ -1,0 +1,4 @@
+// Text tables over byte slices: lines, fields and decimals, read and written.
+pub mod decimal;
+pub mod fields;
+pub mod parts;
