@@ -1,14 +1,31 @@
--- Laws of a number as text.
-use mathlib.Core.Bool.{Bool, true, false, cond}
-use mathlib.Core.List.{[], _∷_, _++_}
+-- Laws of decimals, read and written.
+use mathlib.Core.Bool.{_&&_, and-eq-true-iff, Bool, true, false, cond}
+use mathlib.Core.List.{List, [], _∷_, _++_}
 use mathlib.Core.Path.{_≡_, refl}
 use Prim.Native.Nat.{ℕ, zero, suc, _+_, _/_, _%_, _^_, _≤_, _<_, zero-le}
 use native.Mathlib.Nat.{pow-suc}
 use native.Mathlib.Omega.{arith}
-use borrow.Author.Tests.{lt-ltb, le-ltb}
-use lib.Dec.{ltb}
+use borrow.Author.Tests.{leb-true, lt-ltb, le-ltb}
+use lib.Dec.{leb, ltb}
 use lib.ListN.{length, length-append}
-use Rattle.table_text.specs.Decimal.{lastDigits, decimal}
+use Rattle.table_text.specs.Decimal.{allDigits, spelled, plain, digitsNumber, number, lastDigits, decimal}
+use Rattle.table_text.specs.declared.decimal.Number.the-variants.{Value, Malformed}
+
+pub taken : (t : Bool) (x w : ℕ) → cond t (Value x) Malformed ≡ Value w → (t ≡ true) × (x ≡ w)
+taken true x w e = (refl, cc)
+taken false x w e = let z : _≡_ {A = ℕ} 0 1 = cc in absurd (omega arith)
+
+-- a number that is read is within its limit
+pub number-le : (limit : ℕ) (field : List ℕ) (v : ℕ) → number limit field ≡ Value v → v ≤ limit
+unfolding number digitsNumber
+number-le limit field v e = go (plain field) e
+  where
+    go : (t : Bool) → cond t (cond (allDigits field && leb (spelled 0 field) limit) (Value (spelled 0 field)) Malformed) Malformed ≡ Value v → v ≤ limit
+    go true e =
+        let value : ℕ = spelled 0 field in
+        let t = taken (allDigits field && leb value limit) value v e in
+        omega (arith, leb-true value limit (and-eq-true-iff (allDigits field) (leb value limit) .0 (t .0) .1), t .1)
+    go false e = let z : _≡_ {A = ℕ} 0 1 = cc in absurd (omega arith)
 
 level : (k n : ℕ) → lastDigits (suc k) n ≡ cond (ltb n 10) ((48 + n) ∷ []) (lastDigits k (n / 10) ++ ((48 + n % 10) ∷ []))
 unfolding lastDigits

@@ -1,3 +1,4 @@
 pub mod Decimals
 pub mod FieldLists
 pub mod Partings
+pub mod Tables

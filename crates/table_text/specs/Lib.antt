@@ -1,3 +1,5 @@
 pub mod Decimal
 pub mod Fields
+pub mod InputTable
 pub mod Parts
+pub mod Rows

@@ -1,4 +1,6 @@
 // Text tables over byte slices: lines, fields and decimals, read and written.
 pub mod decimal;
 pub mod fields;
+pub mod input_table;
 pub mod parts;
+pub mod position;

@@ -13,6 +13,7 @@ use lib.ListN.{length, getD, drop, drop-of-length-le}
 use lib.Seq.{drop-cons}
 use Rattle.table_text.specs.Decimal.{isDigit, allDigits, spelled, digitsNumber, withDigit}
 use Rattle.table_text.specs.declared.decimal.Number.the-variants.{Value, Malformed}
+use Rattle.table_text.proofs.Decimals.{taken}
 use Rattle.table_text.proofs.decimal.read_digits.Statement.{statement}
 use Rattle.table_text.proofs.decimal.read_digits.Tie as tie
 
@@ -20,10 +21,6 @@ le-spelled : (v : ℕ) (bs : List ℕ) → v ≤ spelled v bs
 unfolding spelled
 le-spelled v [] = le-refl v
 le-spelled v (b ∷ bs) = le-trans (omega arith) (le-spelled (v * 10 + (b - 48)) bs)
-
-taken : (t : Bool) (x w : ℕ) → cond t (Value x) Malformed ≡ Value w → (t ≡ true) × (x ≡ w)
-taken true x w e = (refl, cc)
-taken false x w e = let z : _≡_ {A = ℕ} 0 1 = cc in absurd (omega arith)
 
 left : (t : Bool) (x : ℕ) → cond t (Value x) Malformed ≡ Malformed → t ≡ false
 left true x e = let z : _≡_ {A = ℕ} 0 1 = cc in absurd (omega arith)
