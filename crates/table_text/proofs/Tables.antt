@@ -1,5 +1,5 @@
 -- Laws of reading a table.
-use mathlib.Core.List.{List, []}
+use mathlib.Core.List.{List}
 use mathlib.Core.Path.{_≡_}
 use Prim.Native.Nat.{ℕ, _≤_}
 use lib.ListN.{length, drop-of-length-le}

@@ -1,8 +1,7 @@
 -- Document 01, `duplex-table`: a position is base, quality, depth and error; a row of the input table is two of them.
-use mathlib.Core.List.{List, [], _∷_, _++_}
+use mathlib.Core.List.{List, [], _∷_}
 use Prim.Native.Nat.{ℕ}
 use Rattle.codec_duplex.specs.declared.position.Position.{Position}
-use Rattle.table_text.specs.Decimal.{decimal}
 use Rattle.table_text.specs.Fields.{Read, read, malformed, andThen, fieldsOf, fieldsFrom, baseField, numberField}
 use Rattle.table_text.specs.declared.position.PositionFields.{PositionFields}
 use Rattle.table_text.specs.declared.position.PositionFields.the-variants as fields

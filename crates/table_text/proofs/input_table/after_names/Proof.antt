@@ -1,21 +1,17 @@
 -- The first line goes up to the first line feed; it is compared with the names byte by byte.
-use mathlib.Core.Bool.{Bool, true, false, cond, _&&_, and-eq-true-iff}
+use mathlib.Core.Bool.{Bool, true, false, and-eq-true-iff}
 use mathlib.Core.List.{List, [], _∷_}
-use mathlib.Core.Path.{_≡_, refl, sym, _∙_, ap}
-use Prim.Native.Nat.{ℕ, _+_, _≤_, _<_}
+use mathlib.Core.Path.{_≡_, refl, sym, _∙_}
+use Prim.Native.Nat.{ℕ, _<_}
 use native.Mathlib.Omega.{arith}
 use borrow.Author.Needs.{needs}
 use borrow.Author.Tests.{eqb-true}
 use lib.Dec.{eqb}
-use lib.ListN.{length, take, drop}
+use lib.ListN.{length}
 use Rattle.table_text.specs.InputTable.{sameBytes, inputNames, tableOf}
 use Rattle.table_text.proofs.Partings.{part-ended, part-last}
 use Rattle.table_text.proofs.input_table.after_names.Statement.{statement}
 use Rattle.table_text.proofs.input_table.after_names.Tie as tie
-use Rattle.table_text.proofs.input_table.after_names.Reads as reads
-use Rattle.table_text.proofs.input_table.after_names.Lts as lts
-use Rattle.check.proofs.same.Reads as same-reads
-use Rattle.table_text.proofs.parts.part_end.Reads as part-end-reads
 
 same-bytes : (xs ys : List ℕ) → sameBytes xs ys ≡ true → xs ≡ ys
 unfolding sameBytes

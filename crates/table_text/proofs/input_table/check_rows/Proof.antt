@@ -1,6 +1,6 @@
 -- The ending of the table is that of the lines left.
 use mathlib.Core.Path.{_≡_, refl, sym, _∙_, ap}
-use Prim.Native.Nat.{ℕ, _+_, _-_, _≤_, _<_}
+use Prim.Native.Nat.{_-_, _≤_}
 use native.Mathlib.Omega.{arith}
 use borrow.Author.Needs.{needs}
 use lib.ListN.{length}
@@ -9,9 +9,6 @@ use Rattle.table_text.specs.declared.input_table.NextRow.the-variants.{R
 use Rattle.table_text.proofs.Tables.{table-end}
 use Rattle.table_text.proofs.input_table.check_rows.Statement.{statement}
 use Rattle.table_text.proofs.input_table.check_rows.Tie as tie
-use Rattle.table_text.proofs.input_table.check_rows.Reads as reads
-use Rattle.table_text.proofs.input_table.check_rows.Lts as lts
-use Rattle.table_text.proofs.input_table.next_row.Reads as next-row-reads
 
 abbrev Inv-loop : tie.InvT-loop
 Inv-loop input start line₀ at₀ line at = (at ≤ length input) × (tableFrom input 2 start .ending ≡ tableFrom input line at .ending)

@@ -1,13 +1,9 @@
 -- The names, and then the rows.
-use mathlib.Core.Path.{_≡_, sym, _∙_, ap}
+use mathlib.Core.Path.{sym, _∙_, ap}
 use borrow.Author.Needs.{needs}
 use Rattle.table_text.specs.InputTable.{Reading}
 use Rattle.table_text.proofs.input_table.check_table.Statement.{statement}
 use Rattle.table_text.proofs.input_table.check_table.Tie as tie
-use Rattle.table_text.proofs.input_table.check_table.Reads as reads
-use Rattle.table_text.proofs.input_table.check_table.Lts as lts
-use Rattle.table_text.proofs.input_table.after_names.Reads as after-names-reads
-use Rattle.table_text.proofs.input_table.check_rows.Reads as check-rows-reads
 
 after-names-requires : tie.Need-after-names-requires
 after-names-requires c κs = search needs

@@ -1,23 +1,19 @@
 -- By the tests: a line past the last, a line without its line feed, a line that is no row, a row.
 use mathlib.Core.Bool.{Bool, true, false, cond}
-use mathlib.Core.List.{List, [], _∷_}
-use mathlib.Core.Path.{_≡_, refl, sym, _∙_, ap}
-use Prim.Native.Nat.{ℕ, suc, _+_, _≤_, _<_}
+use mathlib.Core.List.{List, []}
+use mathlib.Core.Path.{_≡_, refl}
+use Prim.Native.Nat.{ℕ, suc, _<_}
 use native.Mathlib.Omega.{arith}
 use borrow.Author.Needs.{needs}
 use borrow.Author.Tests.{le-leb, lt-leb}
 use lib.Dec.{eqb}
-use lib.ListN.{length, getD, take, drop}
+use lib.ListN.{length, getD, drop}
 use lib.Seq.{drop-cons}
 use Rattle.table_text.specs.InputTable.{readFrom, malformedAt, tableFrom}
 use Rattle.table_text.specs.Parts.{Parts, last, ended, inFront, parts}
 use Rattle.table_text.proofs.Partings.{part-ended, part-last}
 use Rattle.table_text.proofs.input_table.next_row.Statement.{statement}
 use Rattle.table_text.proofs.input_table.next_row.Tie as tie
-use Rattle.table_text.proofs.input_table.next_row.Reads as reads
-use Rattle.table_text.proofs.input_table.next_row.Lts as lts
-use Rattle.table_text.proofs.parts.part_end.Reads as part-end-reads
-use Rattle.table_text.proofs.position.read_row.Reads as read-row-reads
 
 past-last : (input : List ℕ) (line at : ℕ) → at < length input → 2049 < line → tableFrom input line at ≡ malformedAt line
 unfolding parts inFront readFrom

@@ -4,17 +4,13 @@ use mathlib.Core.Path.{_≡_, sym, _∙_, ap}
 use Prim.Native.Nat.{ℕ, _≤_}
 use native.Mathlib.Omega.{arith}
 use borrow.Author.Needs.{needs}
-use Rattle.table_text.specs.Fields.{Read, read, malformed, fieldsFrom, baseField, numberField, baseIn, numberIn}
+use Rattle.table_text.specs.Fields.{fieldsFrom, numberField, numberIn}
 use Rattle.table_text.specs.Rows.{positionFields}
 use Rattle.table_text.specs.declared.fields.NumberField.{NumberField}
 use Rattle.table_text.specs.declared.fields.NumberField.the-variants.{Value}
 use Rattle.table_text.proofs.FieldLists.{number-field-le}
 use Rattle.table_text.proofs.position.read_position.Statement.{statement}
 use Rattle.table_text.proofs.position.read_position.Tie as tie
-use Rattle.table_text.proofs.position.read_position.Reads as reads
-use Rattle.table_text.proofs.position.read_position.Lts as lts
-use Rattle.table_text.proofs.fields.read_base.Reads as read-base-reads
-use Rattle.table_text.proofs.fields.read_number.Reads as read-number-reads
 
 -- a number that a field gave is within its limit
 within : (line : List ℕ) (limit : ℕ) (fields : List (List ℕ)) (r : NumberField) (v next : ℕ) → numberIn line r ≡ numberField limit fields → r ≡ Value v next → v ≤ limit

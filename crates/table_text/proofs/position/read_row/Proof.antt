@@ -1,17 +1,9 @@
 -- After the second position there is a field exactly where its end is not past the line's.
-use mathlib.Core.List.{List, [], _∷_}
-use mathlib.Core.Path.{_≡_, refl, sym, _∙_, ap}
-use Prim.Native.Nat.{ℕ, _+_, _≤_}
-use native.Mathlib.Omega.{arith}
 use borrow.Author.Needs.{needs}
-use Rattle.table_text.specs.Fields.{fieldsOf, fieldsFrom}
 use Rattle.table_text.specs.Rows.{rowOf}
 use Rattle.table_text.proofs.FieldLists.{fields-none, fields-whole, fields-some}
 use Rattle.table_text.proofs.position.read_row.Statement.{statement}
 use Rattle.table_text.proofs.position.read_row.Tie as tie
-use Rattle.table_text.proofs.position.read_row.Reads as reads
-use Rattle.table_text.proofs.position.read_row.Lts as lts
-use Rattle.table_text.proofs.position.read_position.Reads as read-position-reads
 
 read-position-requires : tie.Need-read-position-requires
 read-position-requires c κs = search needs
