@@ -7,6 +7,7 @@ use Rattle.lists.specs.Written.{written}
 use Rattle.table_text.specs.Decimal.{decimal}
 use Rattle.table_text.specs.InputTable.{Reading, tableOf}
 use Rattle.table_text.specs.OutputTable.{outputTable}
+use Rattle.table_text.specs.Text.{bytesOf, space, lineFeed}
 use Rattle.table_text.specs.declared.duplex.TableAnswer.{TableAnswer}
 use Rattle.table_text.specs.declared.duplex.TableAnswer.the-variants as answers
 use Rattle.table_text.specs.declared.input_table.Checked.{Checked}
@@ -41,7 +42,7 @@ pub record CombinedTable (input old new : List ℕ) (r : TableAnswer) : Type 0 w
 
 -- `refused 13 LINE` and a line feed
 unfoldable pub refusalText : ℕ → ℕ → List ℕ
-refusalText number given = 114 ∷ 101 ∷ 102 ∷ 117 ∷ 115 ∷ 101 ∷ 100 ∷ 32 ∷ (decimal number ++ (32 ∷ (decimal given ++ (10 ∷ []))))
+refusalText number given = bytesOf "refused " ++ (decimal number ++ (space ∷ (decimal given ++ (lineFeed ∷ []))))
 
 abbrev pub textAt : Refusal → List ℕ → List ℕ
 textAt none text = text

@@ -1,11 +1,13 @@
 -- Document 01, `duplex-table`: single spaces stand between the fields of a line.
 use mathlib.Core.Bool.{Bool, cond, _||_}
 use mathlib.Core.List.{List, [], _∷_}
+use Prim.Native.Char.{code}
 use Prim.Native.Nat.{ℕ}
 use lib.Dec.{leb, eqb}
 use lib.ListN.{length, drop}
 use Rattle.table_text.specs.Decimal.{number}
 use Rattle.table_text.specs.Parts.{Parts, last, ended, parts}
+use Rattle.table_text.specs.Text.{space}
 use Rattle.table_text.specs.declared.decimal.Number.{Number}
 use Rattle.table_text.specs.declared.decimal.Number.the-variants as numbers
 use Rattle.table_text.specs.declared.fields.BaseField.{BaseField}
@@ -19,7 +21,7 @@ listed (ended part more) = part ∷ listed more
 
 -- the fields of a line: its parts at the spaces
 abbrev pub fieldsOf : List ℕ → List (List ℕ)
-fieldsOf line = listed (parts 32 line)
+fieldsOf line = listed (parts space line)
 
 -- the fields from a place of a line on; past its end there are none
 unfoldable pub fieldsFrom : List ℕ → ℕ → List (List ℕ)
@@ -35,9 +37,9 @@ abbrev pub andThen : {A B : Type 0} → Read A → (A → List (List ℕ) → Re
 andThen (read a rest) second = second a rest
 andThen malformed second = malformed
 
--- the bases A C G T N n
+-- the bases
 abbrev pub isBase : ℕ → Bool
-isBase b = eqb b 65 || eqb b 67 || eqb b 71 || eqb b 84 || eqb b 78 || eqb b 110
+isBase b = eqb b (code "A") || eqb b (code "C") || eqb b (code "G") || eqb b (code "T") || eqb b (code "N") || eqb b (code "n")
 
 -- a field that is one base
 unfoldable pub baseField : List (List ℕ) → Read ℕ

@@ -8,6 +8,7 @@ use lib.ListN.{length, drop}
 use Rattle.codec_duplex.specs.declared.position.Position.{Position}
 use Rattle.table_text.specs.Parts.{Parts, last, ended, parts}
 use Rattle.table_text.specs.Rows.{rowOf}
+use Rattle.table_text.specs.Text.{bytesOf, lineFeed}
 use Rattle.table_text.specs.declared.input_table.Checked.{Checked}
 use Rattle.table_text.specs.declared.input_table.Checked.the-variants as checked
 use Rattle.table_text.specs.declared.input_table.Names.{Names}
@@ -23,9 +24,8 @@ sameBytes [] (y ∷ ys) = false
 sameBytes (x ∷ xs) [] = false
 sameBytes (x ∷ xs) (y ∷ ys) = eqb x y && sameBytes xs ys
 
--- `BA QA DA EA BB QB DB EB`
 abbrev pub inputNames : List ℕ
-inputNames = 66 ∷ 65 ∷ 32 ∷ 81 ∷ 65 ∷ 32 ∷ 68 ∷ 65 ∷ 32 ∷ 69 ∷ 65 ∷ 32 ∷ 66 ∷ 66 ∷ 32 ∷ 81 ∷ 66 ∷ 32 ∷ 68 ∷ 66 ∷ 32 ∷ 69 ∷ 66 ∷ []
+inputNames = bytesOf "BA QA DA EA BB QB DB EB"
 
 -- the rows before the first malformed line, and that line's number where there is one
 pub record Reading : Type 0 where
@@ -47,6 +47,7 @@ rowThen line rows.Malformed more = malformedAt line
 
 -- the lines from a number on; the names are line 1, so line 2,049 is the last that may hold a position
 unfoldable pub readFrom : ℕ → Parts → Reading
+-- and what stands after the last line feed is nothing, or a line that is not ended
 readFrom line (last []) = finished
 readFrom line (last (b ∷ bs)) = malformedAt line
 readFrom line (ended text more) = cond (leb line 2049) (rowThen line (rowOf text) (readFrom (line + 1) more)) (malformedAt line)
@@ -58,11 +59,11 @@ afterNames (ended text more) = cond (sameBytes text inputNames) (readFrom 2 more
 
 -- an input table, taken apart at the line feeds
 unfoldable pub tableOf : List ℕ → Reading
-tableOf input = afterNames (parts 10 input)
+tableOf input = afterNames (parts lineFeed input)
 
 -- the table from a place of an input on, where a line of that number begins
 abbrev pub tableFrom : List ℕ → ℕ → ℕ → Reading
-tableFrom input line at = readFrom line (parts 10 (drop at input))
+tableFrom input line at = readFrom line (parts lineFeed (drop at input))
 
 abbrev pub NamesRead : List ℕ → Names → Type 0
 NamesRead input (names.Until at) = (at ≤ length input) × (tableOf input ≡ tableFrom input 2 at)

@@ -5,3 +5,4 @@ pub mod InputTable
 pub mod OutputTable
 pub mod Parts
 pub mod Rows
+pub mod Text

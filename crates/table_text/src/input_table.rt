@@ -27,7 +27,7 @@ pub enum Checked {
 }
 
 // Where the first line after the names begins.
-pub fn after_names(input: &[u8]) -> Names
+pub(crate) fn after_names(input: &[u8]) -> Names
     ensures { λ r. ⌜ NamesRead (now (input .entry)) r ⌝ }
 {
     let end = parts::part_end(input, 0, b'\n');
@@ -42,7 +42,7 @@ pub fn after_names(input: &[u8]) -> Names
 }
 
 // The row of the line that begins at `at`, and where the line after it begins.
-pub fn next_row(input: &[u8], line: usize, at: usize) -> NextRow
+pub(crate) fn next_row(input: &[u8], line: usize, at: usize) -> NextRow
     requires { ⌜ at < length (now input) ⌝ }
     ensures { λ r. ⌜ NextRead (now (input .entry)) line at r ⌝ }
 {
@@ -50,7 +50,7 @@ pub fn next_row(input: &[u8], line: usize, at: usize) -> NextRow
         return NextRow::Malformed;
     }
     let end = parts::part_end(input, at, b'\n');
-    if end == input.len() {
+    if input.len() <= end {
         return NextRow::Malformed;
     }
     let Row::Pair(first, second) = position::read_row(&input[at..end]) else {

@@ -66,7 +66,7 @@ fn write_rows(input: &[u8], start: usize, output: &mut [u8], to: usize) -> usize
 }
 
 // The names and the combined rows; of a table with a malformed line, the rows before it.
-pub fn write_table(input: &[u8], output: &mut [u8]) -> usize
+pub(crate) fn write_table(input: &[u8], output: &mut [u8]) -> usize
     requires { ⌜ 40980 ≤ length (now output) ⌝ }
     ensures { λ r. ⌜ r ≡ length (outputTable (tableOf (now (input .entry)) .rows)) ⌝ }
     ensures { λ _. ⌜ now (output .exit) ≡ written (outputTable (tableOf (now (input .entry)) .rows)) (now (output .entry)) ⌝ }
