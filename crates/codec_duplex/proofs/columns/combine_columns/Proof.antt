@@ -1,0 +1,178 @@
+use mathlib.Core.List.{List}
+use mathlib.Core.Path.{_≡_, ap}
+use Prim.Native.Nat.{ℕ, _+_, _≤_, _<_, _-_}
+use native.Mathlib.Omega.{arith}
+use borrow.Author.Needs.{needs}
+use lib.ListN.{length, set, length-set}
+use Rattle.lists.specs.Tabulate.{tabulate}
+use Rattle.lists.specs.Written.{written}
+use Rattle.lists.proofs.Tabulate.{tabulate-more}
+use Rattle.codec_duplex.specs.Columns.{Strand, strand, fieldAt, column}
+use Rattle.codec_duplex.specs.declared.position.Position.{Position}
+use Rattle.codec_duplex.proofs.columns.combine_columns.Statement.{statement}
+use Rattle.codec_duplex.proofs.columns.combine_columns.Tie as tie
+
+abbrev Inv-loop : tie.InvT-loop
+Inv-loop a-bases a-quals a-depths a-errors b-bases b-quals b-depths b-errors bases₀ quals₀ depths₀ errors₀ i₀ bases quals depths errors i =
+    let a = strand a-bases a-quals a-depths a-errors in
+    let b = strand b-bases b-quals b-depths b-errors in
+    (i ≤ length a-bases)
+    × (length bases ≡ length bases₀)
+    × (length quals ≡ length quals₀)
+    × (length depths ≡ length depths₀)
+    × (length errors ≡ length errors₀)
+    × (bases ≡ written (tabulate (fieldAt Position.base a b) i) bases₀)
+    × (quals ≡ written (tabulate (fieldAt Position.quality a b) i) quals₀)
+    × (depths ≡ written (tabulate (fieldAt Position.depth a b) i) depths₀)
+    × (errors ≡ written (tabulate (fieldAt Position.error a b) i) errors₀)
+
+abbrev μ-loop : tie.MeasureT-loop
+μ-loop a-bases a-quals a-depths a-errors b-bases b-quals b-depths b-errors bases₀ quals₀ depths₀ errors₀ i₀ bases quals depths errors i =
+    length a-bases - i
+
+loop-holds : tie.Need-loop-holds Inv-loop μ-loop
+unfolding tabulate
+loop-holds c = search needs
+
+shared-slice-read-t20 : tie.Need-shared-slice-read-t20 Inv-loop μ-loop
+shared-slice-read-t20 c = search needs
+
+shared-slice-read-t22 : tie.Need-shared-slice-read-t22 Inv-loop μ-loop
+shared-slice-read-t22 c = search needs
+
+mul-t17 : tie.Need-mul-t17 Inv-loop μ-loop
+mul-t17 c = search needs
+
+shared-slice-read-t24 : tie.Need-shared-slice-read-t24 Inv-loop μ-loop
+shared-slice-read-t24 c = search needs
+
+mul-t25 : tie.Need-mul-t25 Inv-loop μ-loop
+mul-t25 c = search needs
+
+shared-slice-read-t27 : tie.Need-shared-slice-read-t27 Inv-loop μ-loop
+shared-slice-read-t27 c = search needs
+
+shared-slice-read-t20-2 : tie.Need-shared-slice-read-t20-2 Inv-loop μ-loop
+shared-slice-read-t20-2 c = search needs
+
+shared-slice-read-t22-2 : tie.Need-shared-slice-read-t22-2 Inv-loop μ-loop
+shared-slice-read-t22-2 c = search needs
+
+mul-t25-2 : tie.Need-mul-t25-2 Inv-loop μ-loop
+mul-t25-2 c = search needs
+
+shared-slice-read-t27-2 : tie.Need-shared-slice-read-t27-2 Inv-loop μ-loop
+shared-slice-read-t27-2 c = search needs
+
+mul-t17-2 : tie.Need-mul-t17-2 Inv-loop μ-loop
+mul-t17-2 c = search needs
+
+shared-slice-read-t24-2 : tie.Need-shared-slice-read-t24-2 Inv-loop μ-loop
+shared-slice-read-t24-2 c = search needs
+
+combine-requires : tie.Need-combine-requires Inv-loop μ-loop
+combine-requires c κs = search needs
+
+slice-write-bases : tie.Need-slice-write-bases Inv-loop μ-loop
+slice-write-bases c = search needs
+
+slice-write-quals : tie.Need-slice-write-quals Inv-loop μ-loop
+slice-write-quals c = search needs
+
+mul-depths : tie.Need-mul-depths Inv-loop μ-loop
+mul-depths c = search needs
+
+slice-write-depths : tie.Need-slice-write-depths Inv-loop μ-loop
+slice-write-depths c = search needs
+
+mul-errors : tie.Need-mul-errors Inv-loop μ-loop
+mul-errors c = search needs
+
+slice-write-errors : tie.Need-slice-write-errors Inv-loop μ-loop
+slice-write-errors c = search needs
+
+add-i : tie.Need-add-i Inv-loop μ-loop
+add-i c = search needs
+
+loop-less : tie.Need-loop-less Inv-loop μ-loop
+loop-less c = search needs
+
+-- one position more of a column
+more : (field : Position → ℕ) (a b : Strand) (old : List ℕ) {col : List ℕ} {v : ℕ} (i : ℕ) → i < length old
+    → col ≡ written (tabulate (fieldAt field a b) i) old
+    → v ≡ fieldAt field a b i
+    → set col i v ≡ written (tabulate (fieldAt field a b) (i + 1)) old
+more field a b old i h e f = rw (e, f) (tabulate-more (fieldAt field a b) old i h)
+
+loop-again : tie.Need-loop-again Inv-loop μ-loop
+unfolding fieldAt
+loop-again c =
+    let loop = c .before .before .before .before .before .before .before .before .before .before .loop in
+    let args = c .before .before .before .before .before .before .before .before .before .before .before .before .before .before .before .before .before .before .before .before .before .before .before .args in
+    let a = strand (args .a-bases .now) (args .a-quals .now) (args .a-depths .now) (args .a-errors .now) in
+    let b = strand (args .b-bases .now) (args .b-quals .now) (args .b-depths .now) (args .b-errors .now) in
+    let p = c .combine .ensures in (
+      omega arith,
+      simp length-set (loop .inv .1),
+      simp length-set (loop .inv .2),
+      simp length-set (loop .inv .3),
+      simp length-set (loop .inv .4),
+      more Position.base a b (args .bases .now) (loop .i) (omega arith) (loop .inv .5) (ap Position.base p),
+      more Position.quality a b (args .quals .now) (loop .i) (omega arith) (loop .inv .6) (ap Position.quality p),
+      more Position.depth a b (args .depths .now) (loop .i) (omega arith) (loop .inv .7) (ap Position.depth p),
+      more Position.error a b (args .errors .now) (loop .i) (omega arith) (loop .inv .8) (ap Position.error p),
+    )
+
+same-length : tie.Need-same-length Inv-loop μ-loop
+same-length c = c .before .loop .inv .1
+
+same-length-2 : tie.Need-same-length-2 Inv-loop μ-loop
+same-length-2 c = c .before .loop .inv .2
+
+same-length-3 : tie.Need-same-length-3 Inv-loop μ-loop
+same-length-3 c = c .before .loop .inv .3
+
+same-length-4 : tie.Need-same-length-4 Inv-loop μ-loop
+same-length-4 c = c .before .loop .inv .4
+
+returns : tie.Need-returns Inv-loop μ-loop
+unfolding column
+returns c =
+    let inv = c .before .loop .inv in
+    let end : c .before .loop .i ≡ length (c .before .before .before .before .before .before .before .before .before .before .before .before .before .before .args .a-bases .now) = omega arith in
+    record { bases = rw end at (inv .5); quals = rw end at (inv .6); depths = rw end at (inv .7); errors = rw end at (inv .8) }
+
+pub combine-columns-spec : {M : Type 1} → statement M
+combine-columns-spec =
+    tie.close
+    (tie.spec
+    Inv-loop
+    μ-loop
+    loop-holds
+    shared-slice-read-t20
+    shared-slice-read-t22
+    mul-t17
+    shared-slice-read-t24
+    mul-t25
+    shared-slice-read-t27
+    shared-slice-read-t20-2
+    shared-slice-read-t22-2
+    mul-t25-2
+    shared-slice-read-t27-2
+    mul-t17-2
+    shared-slice-read-t24-2
+    combine-requires
+    slice-write-bases
+    slice-write-quals
+    mul-depths
+    slice-write-depths
+    mul-errors
+    slice-write-errors
+    add-i
+    loop-less
+    loop-again
+    same-length
+    same-length-2
+    same-length-3
+    same-length-4
+    returns)
