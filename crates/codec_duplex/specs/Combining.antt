@@ -24,7 +24,7 @@ left o duplex old = cond (isDuplex o) (written duplex old) old
 
 pub record Combining (a b : Strand) (count : ℕ) (rate : Float) (r : DuplexAnswer) (before after : Strand) : Type 0 where
   pub answer : outcomeOf r ≡ outcome a b (lengths before) count rate
-  pub bases : after .bases ≡ left (outcomeOf r) (column Position.base a b) (before .bases)
-  pub quals : after .quals ≡ left (outcomeOf r) (column Position.quality a b) (before .quals)
-  pub depths : after .depths ≡ left (outcomeOf r) (column Position.depth a b) (before .depths)
-  pub errors : after .errors ≡ left (outcomeOf r) (column Position.error a b) (before .errors)
+  pub bases : after .bases ≡ left (outcome a b (lengths before) count rate) (column Position.base a b) (before .bases)
+  pub quals : after .quals ≡ left (outcome a b (lengths before) count rate) (column Position.quality a b) (before .quals)
+  pub depths : after .depths ≡ left (outcome a b (lengths before) count rate) (column Position.depth a b) (before .depths)
+  pub errors : after .errors ≡ left (outcome a b (lengths before) count rate) (column Position.error a b) (before .errors)

@@ -1,13 +1,12 @@
-use mathlib.Core.List.{List}
 use mathlib.Core.Path.{_≡_, ap}
-use Prim.Native.Nat.{ℕ, _+_, _≤_, _<_, _-_}
+use Prim.Native.Nat.{_≤_, _-_}
 use native.Mathlib.Omega.{arith}
 use borrow.Author.Needs.{needs}
-use lib.ListN.{length, set, length-set}
+use lib.ListN.{length, length-set}
 use Rattle.lists.specs.Tabulate.{tabulate}
 use Rattle.lists.specs.Written.{written}
-use Rattle.lists.proofs.Tabulate.{tabulate-more}
-use Rattle.codec_duplex.specs.Columns.{Strand, strand, fieldAt, column}
+use Rattle.lists.proofs.Tabulate.{tabulate-put}
+use Rattle.codec_duplex.specs.Columns.{strand, fieldAt, column}
 use Rattle.codec_duplex.specs.declared.position.Position.{Position}
 use Rattle.codec_duplex.proofs.columns.combine_columns.Statement.{statement}
 use Rattle.codec_duplex.proofs.columns.combine_columns.Tie as tie
@@ -97,13 +96,6 @@ add-i c = search needs
 loop-less : tie.Need-loop-less Inv-loop μ-loop
 loop-less c = search needs
 
--- one position more of a column
-more : (field : Position → ℕ) (a b : Strand) (old : List ℕ) {col : List ℕ} {v : ℕ} (i : ℕ) → i < length old
-    → col ≡ written (tabulate (fieldAt field a b) i) old
-    → v ≡ fieldAt field a b i
-    → set col i v ≡ written (tabulate (fieldAt field a b) (i + 1)) old
-more field a b old i h e f = rw (e, f) (tabulate-more (fieldAt field a b) old i h)
-
 loop-again : tie.Need-loop-again Inv-loop μ-loop
 unfolding fieldAt
 loop-again c =
@@ -117,10 +109,10 @@ loop-again c =
       simp length-set (loop .inv .2),
       simp length-set (loop .inv .3),
       simp length-set (loop .inv .4),
-      more Position.base a b (args .bases .now) (loop .i) (omega arith) (loop .inv .5) (ap Position.base p),
-      more Position.quality a b (args .quals .now) (loop .i) (omega arith) (loop .inv .6) (ap Position.quality p),
-      more Position.depth a b (args .depths .now) (loop .i) (omega arith) (loop .inv .7) (ap Position.depth p),
-      more Position.error a b (args .errors .now) (loop .i) (omega arith) (loop .inv .8) (ap Position.error p),
+      tabulate-put (fieldAt Position.base a b) (args .bases .now) (loop .i) (omega arith) (loop .inv .5) (ap Position.base p),
+      tabulate-put (fieldAt Position.quality a b) (args .quals .now) (loop .i) (omega arith) (loop .inv .6) (ap Position.quality p),
+      tabulate-put (fieldAt Position.depth a b) (args .depths .now) (loop .i) (omega arith) (loop .inv .7) (ap Position.depth p),
+      tabulate-put (fieldAt Position.error a b) (args .errors .now) (loop .i) (omega arith) (loop .inv .8) (ap Position.error p),
     )
 
 same-length : tie.Need-same-length Inv-loop μ-loop

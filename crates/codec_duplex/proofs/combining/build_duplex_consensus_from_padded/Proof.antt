@@ -6,35 +6,27 @@ use Prim.Native.Nat.{ℕ}
 use lib.Ieee.{Float}
 use Rattle.codec_duplex.specs.Columns.{Strand, strand, lengths, columnsFit, Filled}
 use Rattle.codec_duplex.specs.Combining.{Combining, outcome}
-use Rattle.codec_duplex.specs.Limits.{outcomeOf, isDuplex, judged}
-use Rattle.codec_duplex.specs.Tally.{tallied}
+use Rattle.codec_duplex.specs.Limits.{outcomeOf, isDuplex}
 use Rattle.codec_duplex.specs.declared.limits.DuplexAnswer.{DuplexAnswer}
-use Rattle.codec_duplex.specs.declared.limits.DuplexAnswer.the-variants.{Refused}
 use Rattle.codec_duplex.proofs.Laws.{at-most-2048, fitting}
 use borrow.Author.Needs.{needs}
 use Rattle.codec_duplex.proofs.combining.build_duplex_consensus_from_padded.Statement.{statement}
 use Rattle.codec_duplex.proofs.combining.build_duplex_consensus_from_padded.Tie as tie
 
-module _ (a b before : Strand) (count : ℕ) (rate : Float) where
-  refused-12 : columnsFit (lengths a ++ lengths b) (lengths before) ≡ false → Combining a b count rate Refused before before
-  unfolding outcome
-  refused-12 misfit = record { answer = simp misfit; bases = refl; quals = refl; depths = refl; errors = refl }
+module _ (a b before : Strand) (count : ℕ) (rate : Float) (r : DuplexAnswer) (same : outcomeOf r ≡ outcome a b (lengths before) count rate) where
+  untouched : isDuplex (outcomeOf r) ≡ false → Combining a b count rate r before before
+  untouched none =
+      record { answer = same; bases = simp (← same, none); quals = simp (← same, none); depths = simp (← same, none); errors = simp (← same, none) }
 
-  module _ (fit : columnsFit (lengths a ++ lengths b) (lengths before) ≡ true) (r : DuplexAnswer) (judgement : outcomeOf r ≡ judged (tallied (a .bases) (b .bases)) count rate) where
-    rejected : isDuplex (outcomeOf r) ≡ false → Combining a b count rate r before before
-    unfolding outcome
-    rejected not-one = record { answer = judgement ∙ simp fit; bases = simp not-one; quals = simp not-one; depths = simp not-one; errors = simp not-one }
-
-    accepted : isDuplex (outcomeOf r) ≡ true → (after : Strand) → Filled a b before after → Combining a b count rate r before after
-    unfolding outcome
-    accepted is-one after filled =
-        record {
-          answer = judgement ∙ simp fit;
-          bases = simp is-one (filled .bases);
-          quals = simp is-one (filled .quals);
-          depths = simp is-one (filled .depths);
-          errors = simp is-one (filled .errors);
-        }
+  filled : isDuplex (outcomeOf r) ≡ true → (after : Strand) → Filled a b before after → Combining a b count rate r before after
+  filled one after columns =
+      record {
+        answer = same;
+        bases = simp (← same, one) (columns .bases);
+        quals = simp (← same, one) (columns .quals);
+        depths = simp (← same, one) (columns .depths);
+        errors = simp (← same, one) (columns .errors);
+      }
 
 abbrev first : tie.Else1 → Strand
 first c =
@@ -56,14 +48,20 @@ fit : (c : tie.Else1) → columnsFit (lengths (first c) ++ lengths (second c)) (
 fit c = sym (c .before .columns-fit .ensures) ∙ not-false _ (c .if1 .left)
 
 -- the limits judged the strands' tallies
-judgement : (c : tie.After-judge) → outcomeOf (c .judge .result) ≡ judged (tallied (first (c .before .before) .bases) (second (c .before .before) .bases)) (c .before .before .before .before .before .before .before .before .before .before .before .before .before .before .before .before .args .max-disagreements) (c .before .before .before .before .before .before .before .before .before .before .before .before .before .before .before .before .args .max-rate)
-judgement c = rw (c .before .tally .ensures) at (c .judge .ensures)
+judgement : (c : tie.After-judge)
+    → outcomeOf (c .judge .result)
+    ≡ outcome (first (c .before .before)) (second (c .before .before)) (lengths (lent (c .before .before))) (c .before .before .before .before .before .before .before .before .before .before .before .before .before .before .before .before .args .max-disagreements) (c .before .before .before .before .before .before .before .before .before .before .before .before .before .before .before .before .args .max-rate)
+unfolding outcome
+judgement c = rw (c .before .tally .ensures) at (c .judge .ensures) ∙ simp (fit (c .before .before))
 
 columns-fit-requires : tie.Need-columns-fit-requires
 columns-fit-requires c κs = search needs
 
 returns : tie.Need-returns
-returns c = refused-12 _ _ _ _ _ (sym (c .before .columns-fit .ensures) ∙ not-true _ (c .if1 .taken))
+unfolding outcome
+returns c =
+    let misfit = sym (c .before .columns-fit .ensures) ∙ not-true _ (c .if1 .taken) in
+    untouched _ _ _ _ _ _ (simp misfit) refl
 
 tally-requires : tie.Need-tally-requires
 tally-requires c κs = (fitting (first c) (second c) (lent c) (fit c) .bBases, at-most-2048 (first c) (second c) (lent c) (fit c))
@@ -91,14 +89,13 @@ same-length-4 c = search needs
 
 returns-2 : tie.Need-returns-2
 returns-2 c =
-    accepted _ _ _ _ _ (fit (c .before .before .before .before .before .before .before .before .before .before .before .before .before .before .before .before .before)) _ (judgement (c .before .before .before .before .before .before .before .before .before .before .before .before .before .before .before))
+    filled _ _ _ _ _ _ (judgement (c .before .before .before .before .before .before .before .before .before .before .before .before .before .before .before))
     (sym (c .before .before .before .before .before .before .before .before .before .before .before .before .before .before .is-duplex .ensures) ∙ c .before .before .before .before .before .before .before .before .before .before .before .before .before .if2 .taken) _
     (c .before .before .before .before .before .before .before .before .combine-columns .ensures)
 
 returns-3 : tie.Need-returns-3
 returns-3 c =
-    rejected _ _ _ _ _ (fit (c .before .before .before .before)) _ (judgement (c .before .before))
-    (sym (c .before .is-duplex .ensures) ∙ c .if2 .left)
+    untouched _ _ _ _ _ _ (judgement (c .before .before)) (sym (c .before .is-duplex .ensures) ∙ c .if2 .left)
 
 pub build-duplex-consensus-from-padded-spec : {M : Type 1} → statement M
 build-duplex-consensus-from-padded-spec =
