@@ -25,7 +25,14 @@ pub fn build_duplex_consensus_from_padded(
     depths: &mut [u16],
     errors: &mut [u16],
 ) -> DuplexAnswer
-    ensures { λ r. ⌜ Combining (strand (now («a_bases» .entry)) (now («a_quals» .entry)) (now («a_depths» .entry)) (now («a_errors» .entry))) (strand (now («b_bases» .entry)) (now («b_quals» .entry)) (now («b_depths» .entry)) (now («b_errors» .entry))) «max_disagreements» «max_rate» r (strand (now (bases .entry)) (now (quals .entry)) (now (depths .entry)) (now (errors .entry))) (strand (now (bases .exit)) (now (quals .exit)) (now (depths .exit)) (now (errors .exit))) ⌝ }
+    ensures { λ r. ⌜
+        Combining
+        (strand (now («a_bases» .entry)) (now («a_quals» .entry)) (now («a_depths» .entry)) (now («a_errors» .entry)))
+        (strand (now («b_bases» .entry)) (now («b_quals» .entry)) (now («b_depths» .entry)) (now («b_errors» .entry)))
+        «max_disagreements» «max_rate» r
+        (strand (now (bases .entry)) (now (quals .entry)) (now (depths .entry)) (now (errors .entry)))
+        (strand (now (bases .exit)) (now (quals .exit)) (now (depths .exit)) (now (errors .exit)))
+        ⌝ }
 {
     let fit = columns_fit(
         a_bases.len(),

@@ -31,6 +31,7 @@ fn position_at(bases: &[u8], quals: &[u8], depths: &[u8], errors: &[u8], i: usiz
     }
 }
 
+// Writes the duplex into the first bytes of the four results.
 pub fn combine_bytes(
     a_bases: &[u8],
     a_quals: &[u8],
@@ -46,7 +47,13 @@ pub fn combine_bytes(
     errors: &mut [u8],
 )
     requires { ⌜ Fitting (read (strand (now «a_bases») (now «a_quals») (now «a_depths») (now «a_errors»))) (read (strand (now «b_bases») (now «b_quals») (now «b_depths») (now «b_errors»))) (read (strand (now bases) (now quals) (now depths) (now errors))) ⌝ }
-    ensures { λ _. ⌜ FilledBytes (strand (now («a_bases» .entry)) (now («a_quals» .entry)) (now («a_depths» .entry)) (now («a_errors» .entry))) (strand (now («b_bases» .entry)) (now («b_quals» .entry)) (now («b_depths» .entry)) (now («b_errors» .entry))) (strand (now (bases .entry)) (now (quals .entry)) (now (depths .entry)) (now (errors .entry))) (strand (now (bases .exit)) (now (quals .exit)) (now (depths .exit)) (now (errors .exit))) ⌝ }
+    ensures { λ _. ⌜
+        FilledBytes
+        (strand (now («a_bases» .entry)) (now («a_quals» .entry)) (now («a_depths» .entry)) (now («a_errors» .entry)))
+        (strand (now («b_bases» .entry)) (now («b_quals» .entry)) (now («b_depths» .entry)) (now («b_errors» .entry)))
+        (strand (now (bases .entry)) (now (quals .entry)) (now (depths .entry)) (now (errors .entry)))
+        (strand (now (bases .exit)) (now (quals .exit)) (now (depths .exit)) (now (errors .exit)))
+        ⌝ }
 {
     let mut i = 0;
     while i < a_bases.len() {

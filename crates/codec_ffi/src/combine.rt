@@ -29,7 +29,14 @@ pub extern "C" fn codec_ffi_combine(
     depths: &mut [u8],
     errors: &mut [u8],
 ) -> CombineAnswer
-    ensures { λ r. ⌜ CombiningBytes (strand (now («a_bases» .entry)) (now («a_quals» .entry)) (now («a_depths» .entry)) (now («a_errors» .entry))) (strand (now («b_bases» .entry)) (now («b_quals» .entry)) (now («b_depths» .entry)) (now («b_errors» .entry))) «max_disagreements» «max_rate» r (strand (now (bases .entry)) (now (quals .entry)) (now (depths .entry)) (now (errors .entry))) (strand (now (bases .exit)) (now (quals .exit)) (now (depths .exit)) (now (errors .exit))) ⌝ }
+    ensures { λ r. ⌜
+        CombiningBytes
+        (strand (now («a_bases» .entry)) (now («a_quals» .entry)) (now («a_depths» .entry)) (now («a_errors» .entry)))
+        (strand (now («b_bases» .entry)) (now («b_quals» .entry)) (now («b_depths» .entry)) (now («b_errors» .entry)))
+        «max_disagreements» «max_rate» r
+        (strand (now (bases .entry)) (now (quals .entry)) (now (depths .entry)) (now (errors .entry)))
+        (strand (now (bases .exit)) (now (quals .exit)) (now (depths .exit)) (now (errors .exit)))
+        ⌝ }
 {
     let even = even_lengths(
         a_depths.len(),

@@ -1,3 +1,4 @@
+-- The code joins its tests to the left, the definition to the right.
 use mathlib.Core.Bool.{and-assoc, and-true}
 use Rattle.codec_duplex.proofs.columns.columns_fit.Statement.{statement}
 use Rattle.codec_duplex.proofs.columns.columns_fit.Tie as tie

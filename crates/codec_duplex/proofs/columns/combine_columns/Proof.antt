@@ -1,4 +1,5 @@
-use mathlib.Core.Path.{_≡_, ap}
+-- The first i positions of every result are written; a turn writes one more.
+use mathlib.Core.Path.{_≡_, _∙_, ap, ap₂}
 use Prim.Native.Nat.{_≤_, _-_}
 use native.Mathlib.Omega.{arith}
 use borrow.Author.Needs.{needs}
@@ -7,6 +8,7 @@ use Rattle.lists.specs.Tabulate.{tabulate}
 use Rattle.lists.specs.Written.{written}
 use Rattle.lists.proofs.Tabulate.{tabulate-put}
 use Rattle.codec_duplex.specs.Columns.{strand, fieldAt, column}
+use Rattle.codec_duplex.specs.Position.{combined}
 use Rattle.codec_duplex.specs.declared.position.Position.{Position}
 use Rattle.codec_duplex.proofs.columns.combine_columns.Statement.{statement}
 use Rattle.codec_duplex.proofs.columns.combine_columns.Tie as tie
@@ -33,41 +35,11 @@ loop-holds : tie.Need-loop-holds Inv-loop μ-loop
 unfolding tabulate
 loop-holds c = search needs
 
-shared-slice-read-t20 : tie.Need-shared-slice-read-t20 Inv-loop μ-loop
-shared-slice-read-t20 c = search needs
+position-at-requires : tie.Need-position-at-requires Inv-loop μ-loop
+position-at-requires c κs = search needs
 
-shared-slice-read-t22 : tie.Need-shared-slice-read-t22 Inv-loop μ-loop
-shared-slice-read-t22 c = search needs
-
-mul-t17 : tie.Need-mul-t17 Inv-loop μ-loop
-mul-t17 c = search needs
-
-shared-slice-read-t24 : tie.Need-shared-slice-read-t24 Inv-loop μ-loop
-shared-slice-read-t24 c = search needs
-
-mul-t25 : tie.Need-mul-t25 Inv-loop μ-loop
-mul-t25 c = search needs
-
-shared-slice-read-t27 : tie.Need-shared-slice-read-t27 Inv-loop μ-loop
-shared-slice-read-t27 c = search needs
-
-shared-slice-read-t20-2 : tie.Need-shared-slice-read-t20-2 Inv-loop μ-loop
-shared-slice-read-t20-2 c = search needs
-
-shared-slice-read-t22-2 : tie.Need-shared-slice-read-t22-2 Inv-loop μ-loop
-shared-slice-read-t22-2 c = search needs
-
-mul-t25-2 : tie.Need-mul-t25-2 Inv-loop μ-loop
-mul-t25-2 c = search needs
-
-shared-slice-read-t27-2 : tie.Need-shared-slice-read-t27-2 Inv-loop μ-loop
-shared-slice-read-t27-2 c = search needs
-
-mul-t17-2 : tie.Need-mul-t17-2 Inv-loop μ-loop
-mul-t17-2 c = search needs
-
-shared-slice-read-t24-2 : tie.Need-shared-slice-read-t24-2 Inv-loop μ-loop
-shared-slice-read-t24-2 c = search needs
+position-at-requires-2 : tie.Need-position-at-requires-2 Inv-loop μ-loop
+position-at-requires-2 c κs = search needs
 
 combine-requires : tie.Need-combine-requires Inv-loop μ-loop
 combine-requires c κs = search needs
@@ -79,19 +51,19 @@ slice-write-quals : tie.Need-slice-write-quals Inv-loop μ-loop
 slice-write-quals c = search needs
 
 mul-depths : tie.Need-mul-depths Inv-loop μ-loop
-mul-depths c = search needs
+mul-depths c = omega (arith, c .before .before .before .before .before .before .before .before .before .before .before .before .before .before .before .before .before .good)
 
 slice-write-depths : tie.Need-slice-write-depths Inv-loop μ-loop
 slice-write-depths c = search needs
 
 mul-errors : tie.Need-mul-errors Inv-loop μ-loop
-mul-errors c = search needs
+mul-errors c = omega (arith, c .before .before .before .before .before .before .before .before .before .before .before .before .before .before .before .before .before .good)
 
 slice-write-errors : tie.Need-slice-write-errors Inv-loop μ-loop
 slice-write-errors c = search needs
 
 add-i : tie.Need-add-i Inv-loop μ-loop
-add-i c = search needs
+add-i c = omega (arith, c .before .before .before .before .before .before .before .before .before .before .before .before .before .before .before .before .before .good)
 
 loop-less : tie.Need-loop-less Inv-loop μ-loop
 loop-less c = search needs
@@ -99,20 +71,21 @@ loop-less c = search needs
 loop-again : tie.Need-loop-again Inv-loop μ-loop
 unfolding fieldAt
 loop-again c =
-    let loop = c .before .before .before .before .before .before .before .before .before .before .loop in
-    let args = c .before .before .before .before .before .before .before .before .before .before .before .before .before .before .before .before .before .before .before .before .before .before .before .args in
+    let loop = c .before .before .before .before .loop in
+    let args = c .before .before .before .before .before .before .before .before .before .before .before .before .before .before .before .before .before .args in
+    let fit = c .before .before .before .before .before .before .before .before .before .before .before .before .before .before .before .before .before .pre in
     let a = strand (args .a-bases .now) (args .a-quals .now) (args .a-depths .now) (args .a-errors .now) in
     let b = strand (args .b-bases .now) (args .b-quals .now) (args .b-depths .now) (args .b-errors .now) in
-    let p = c .combine .ensures in (
+    let p = c .combine .ensures ∙ ap₂ combined (c .before .before .position-at .ensures) (c .before .position-at2 .ensures) in (
       omega arith,
       simp length-set (loop .inv .1),
       simp length-set (loop .inv .2),
       simp length-set (loop .inv .3),
       simp length-set (loop .inv .4),
-      tabulate-put (fieldAt Position.base a b) (args .bases .now) (loop .i) (omega arith) (loop .inv .5) (ap Position.base p),
-      tabulate-put (fieldAt Position.quality a b) (args .quals .now) (loop .i) (omega arith) (loop .inv .6) (ap Position.quality p),
-      tabulate-put (fieldAt Position.depth a b) (args .depths .now) (loop .i) (omega arith) (loop .inv .7) (ap Position.depth p),
-      tabulate-put (fieldAt Position.error a b) (args .errors .now) (loop .i) (omega arith) (loop .inv .8) (ap Position.error p),
+      tabulate-put (fieldAt Position.base a b) (args .bases .now) (loop .i) (omega (arith, fit .bases)) (loop .inv .5) (ap Position.base p),
+      tabulate-put (fieldAt Position.quality a b) (args .quals .now) (loop .i) (omega (arith, fit .quals)) (loop .inv .6) (ap Position.quality p),
+      tabulate-put (fieldAt Position.depth a b) (args .depths .now) (loop .i) (omega (arith, fit .depths)) (loop .inv .7) (ap Position.depth p),
+      tabulate-put (fieldAt Position.error a b) (args .errors .now) (loop .i) (omega (arith, fit .errors)) (loop .inv .8) (ap Position.error p),
     )
 
 same-length : tie.Need-same-length Inv-loop μ-loop
@@ -141,18 +114,8 @@ combine-columns-spec =
     Inv-loop
     μ-loop
     loop-holds
-    shared-slice-read-t20
-    shared-slice-read-t22
-    mul-t17
-    shared-slice-read-t24
-    mul-t25
-    shared-slice-read-t27
-    shared-slice-read-t20-2
-    shared-slice-read-t22-2
-    mul-t25-2
-    shared-slice-read-t27-2
-    mul-t17-2
-    shared-slice-read-t24-2
+    position-at-requires
+    position-at-requires-2
     combine-requires
     slice-write-bases
     slice-write-quals

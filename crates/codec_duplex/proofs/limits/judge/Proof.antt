@@ -1,3 +1,4 @@
+-- Each answer goes by the tests that lead to it.
 use borrow.Author.Tests.{eq-eqb, ne-eqb, lt-ltb, le-ltb}
 use Rattle.codec_duplex.specs.Limits.{judged}
 use borrow.Author.Needs.{needs}

@@ -1,3 +1,4 @@
+-- The loop has counted the positions below i.
 use mathlib.Core.Path.{_≡_}
 use Prim.Native.Nat.{_+_, _≤_, _-_}
 use native.Mathlib.Omega.{arith}

@@ -1,3 +1,4 @@
+-- Each arm knows the answer's case.
 use borrow.Author.Needs.{needs}
 use Rattle.codec_ffi.proofs.answer.report.Statement.{statement}
 use Rattle.codec_ffi.proofs.answer.report.Tie as tie

@@ -1,3 +1,4 @@
+-- The first i positions of every result are written; a turn writes one more, two bytes of it in the columns of pairs.
 use mathlib.Core.List.{List}
 use mathlib.Core.Path.{_≡_, _∙_, ap, ap₂}
 use Prim.Native.Nat.{ℕ, _+_, _*_, _≤_, _<_, _-_}

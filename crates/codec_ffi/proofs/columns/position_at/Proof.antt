@@ -1,3 +1,4 @@
+-- The two words are what `word_at` ensures.
 use borrow.Author.Needs.{needs}
 use Rattle.codec_ffi.proofs.columns.position_at.Statement.{statement}
 use Rattle.codec_ffi.proofs.columns.position_at.Tie as tie

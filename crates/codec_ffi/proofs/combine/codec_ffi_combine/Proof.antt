@@ -1,3 +1,4 @@
+-- The answer is the definition's case by the two tests of lengths and by what `judge` ensures; the columns are as lent, or as `combine_bytes` left them.
 use mathlib.Core.Bool.{Bool, true, false, cond, _&&_}
 use mathlib.Core.List.{_++_}
 use mathlib.Core.Path.{_≡_, refl, sym, _∙_, ap}
