@@ -6,12 +6,19 @@ use codec_duplex::tally::DuplexBaseTally;
 fn write_case(name: &[u8], answer: DuplexAnswer) {
     io::write_all(1, name);
     match answer {
-        DuplexAnswer::Duplex(_) => io::write_all(1, b": passes\n"),
-        DuplexAnswer::DisagreementCount(_) => io::write_all(1, b": too many\n"),
-        DuplexAnswer::DisagreementRate(_) => io::write_all(1, b": rate too high\n"),
-        DuplexAnswer::Refused => io::write_all(1, b": refused\n"),
+        DuplexAnswer::Duplex(_) => {
+            io::write_all(1, b": passes\n");
+        }
+        DuplexAnswer::DisagreementCount(_) => {
+            io::write_all(1, b": too many\n");
+        }
+        DuplexAnswer::DisagreementRate(_) => {
+            io::write_all(1, b": rate too high\n");
+        }
+        DuplexAnswer::Refused => {
+            io::write_all(1, b": refused\n");
+        }
     }
-    ;
 }
 
 // Disagreements of both-called positions at a count limit and a rate limit.
