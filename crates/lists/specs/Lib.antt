@@ -1,3 +1,4 @@
 pub mod Count
+pub mod Every
 pub mod Tabulate
 pub mod Written

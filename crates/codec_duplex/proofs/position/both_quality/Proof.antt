@@ -1,3 +1,4 @@
+-- What the callees ensure, put together.
 use borrow.Author.Needs.{needs}
 use Rattle.codec_duplex.proofs.position.both_quality.Statement.{statement}
 use Rattle.codec_duplex.proofs.position.both_quality.Tie as tie
