@@ -16,6 +16,15 @@ pub count-no : (test : ℕ → Bool) (n : ℕ) → test n ≡ false → countBel
 unfolding countBelow
 count-no test n h = simp (add-one, h)
 
+-- one number more, whether or not it meets the test
+pub count-more : (test : ℕ → Bool) (n : ℕ) → countBelow test (n + 1) ≡ countBelow test n + cond (test n) 1 0
+unfolding countBelow
+count-more test n = rw add-one (go (test n))
+  where
+    go : (b : Bool) → cond b (suc (countBelow test n)) (countBelow test n) ≡ countBelow test n + cond b 1 0
+    go true = omega arith
+    go false = omega arith
+
 pub count-le : (test : ℕ → Bool) (n : ℕ) → countBelow test n ≤ n
 unfolding countBelow
 count-le test zero = zero-le

@@ -24,6 +24,13 @@ module _ {A : Type 0} (f : ℕ → A) where
   unfolding tabulate
   tabulate-more old n h = rw (add-one) (subst (λ (k : ℕ). set (written (tabulate f n) old) k (f n) ≡ written (tabulate f n ++ (f n ∷ [])) old) (length-tabulate n) (written-more (tabulate f n) old (f n) (rw (length-tabulate n) h)))
 
+  -- the same of a column and a value that are known by equations
+  pub tabulate-put : (old : List A) {col : List A} {v : A} (n : ℕ) → n < length old
+      → col ≡ written (tabulate f n) old
+      → v ≡ f n
+      → set col n v ≡ written (tabulate f (n + 1)) old
+  tabulate-put old n h e g = rw (e, g) (tabulate-more old n h)
+
   pub getD-tabulate : (n i : ℕ) (d : A) → i < n → getD (tabulate f n) i d ≡ f i
   unfolding tabulate
   getD-tabulate zero i d h = absurd (not-suc-le-zero h)

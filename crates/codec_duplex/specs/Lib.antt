@@ -1,0 +1,5 @@
+pub mod Columns
+pub mod Combining
+pub mod Limits
+pub mod Position
+pub mod Tally

@@ -1,0 +1,5 @@
+pub mod Decimals
+pub mod FieldLists
+pub mod Partings
+pub mod Stores
+pub mod Tables

@@ -1,0 +1,37 @@
+-- The names, and then the rows.
+use mathlib.Core.Path.{sym, _∙_, ap}
+use borrow.Author.Needs.{needs}
+use Rattle.table_text.specs.InputTable.{Reading}
+use Rattle.table_text.proofs.input_table.check_table.Statement.{statement}
+use Rattle.table_text.proofs.input_table.check_table.Tie as tie
+
+after-names-requires : tie.Need-after-names-requires
+after-names-requires c κs = search needs
+
+enum-known-start : tie.Need-enum-known-start
+enum-known-start c = search needs
+
+enum-told : tie.Need-enum-told
+enum-told c = search needs
+
+returns : tie.Need-returns
+returns c = sym (ap (λ (r : Reading). r .ending) (rw (c .enum-told .given .1) at (c .before .before .after-names .ensures)))
+
+check-rows-requires : tie.Need-check-rows-requires
+check-rows-requires c κs = (rw (c .before .start .given .1) at (c .before .before .before .after-names .ensures)) .0
+
+returns-2 : tie.Need-returns-2
+returns-2 c =
+    let known = c .before in
+    c .check-rows .ensures ∙ sym (ap (λ (r : Reading). r .ending) ((rw (known .before .start .given .1) at (known .before .before .before .after-names .ensures)) .1))
+
+pub check-table-spec : {M : Type 1} → statement M
+check-table-spec =
+    tie.close
+    (tie.spec
+    after-names-requires
+    enum-known-start
+    enum-told
+    returns
+    check-rows-requires
+    returns-2)
