@@ -1,10 +1,14 @@
 -- Laws of tabulating.
 use mathlib.Core.List.{List, [], _∷_, _++_}
-use mathlib.Core.Path.{_≡_, refl, _∙_, ap, subst}
-use Prim.Native.Nat.{ℕ, zero, suc, _+_, _≤_, _<_}
+use mathlib.Core.Logic.{⊎-elim}
+use mathlib.Core.Path.{_≡_, refl, sym, _∙_, subst}
+use Prim.Native.Nat.{ℕ, zero, suc, _+_, _<_}
+use native.Mathlib.Decide.{ℕ-discrete}
+use native.Mathlib.Nat.{eq-or-lt-of-le, le-of-suc-le-suc, not-suc-le-zero}
 use native.Mathlib.Numerals.{add-one}
 use native.Mathlib.Omega.{arith}
-use lib.ListN.{length, set, drop, length-append}
+use lib.ListN.{length, getD, set, length-append, length-set, List·getD-append}
+use lib.Seq.{getD-at, getD-set-same, getD-set-other, ext-getD}
 use Rattle.lists.specs.Tabulate.{tabulate}
 use Rattle.lists.specs.Written.{written}
 use Rattle.lists.proofs.Written.{written-more}
@@ -26,3 +30,23 @@ module _ {A : Type 0} (f : ℕ → A) where
       → v ≡ f n
       → set col n v ≡ written (tabulate f (n + 1)) old
   tabulate-put old n h e g = rw (e, g) (tabulate-more old n h)
+
+  pub getD-tabulate : (n i : ℕ) (d : A) → i < n → getD (tabulate f n) i d ≡ f i
+  unfolding tabulate
+  getD-tabulate zero i d h = absurd (not-suc-le-zero h)
+  getD-tabulate (suc n) i d h =
+      ⊎-elim (λ e. rw e (getD-at (tabulate f n) (f n) [] d n (length-tabulate n)))
+      (λ l. List·getD-append (tabulate f n) (f n ∷ []) d i (rw (length-tabulate n) l) ∙ getD-tabulate n i d l)
+      (eq-or-lt-of-le (le-of-suc-le-suc h))
+
+-- a rule that differs from another at one place
+pub set-tabulate : {A : Type 0} (f g : ℕ → A) (n i : ℕ) (a : A) → i < n → g i ≡ a → ((k : ℕ) → (k ≡ i → ⊥) → g k ≡ f k) → set (tabulate f n) i a ≡ tabulate g n
+set-tabulate f g n i a h here others =
+    ext-getD a (set (tabulate f n) i a) (tabulate g n) (length-set (tabulate f n) i a ∙ length-tabulate f n ∙ sym (length-tabulate g n))
+    (λ k within.
+    let room : k < n = omega (arith, length-set (tabulate f n) i a, length-tabulate f n) in
+    by-place k room (ℕ-discrete k i))
+  where
+    by-place : (k : ℕ) → k < n → Dec (k ≡ i) → getD (set (tabulate f n) i a) k a ≡ getD (tabulate g n) k a
+    by-place k room (yes e) = rw e (getD-set-same (tabulate f n) i a a (rw (length-tabulate f n) h) ∙ sym (getD-tabulate g n i a h ∙ here))
+    by-place k room (no differ) = getD-set-other (tabulate f n) i k a a differ ∙ getD-tabulate f n k a room ∙ sym (getD-tabulate g n k a room ∙ others k differ)

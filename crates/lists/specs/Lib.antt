@@ -1,4 +1,5 @@
 pub mod Count
 pub mod Every
 pub mod Tabulate
+pub mod Total
 pub mod Written

@@ -1,0 +1,110 @@
+// Outside vectors over CIGARs, one line for each, held to what was worked out from the documents.
+mod show;
+mod text;
+
+use show::show_cigar;
+use show::show_pair;
+use show::show_positions;
+use show::show_repeated;
+
+// The alignments of the SAM specification's own example (section 1.1), from before the start to past the end.
+fn sam_example() {
+    show_positions(b"8M2I4M1D3M", 7, 6, 24);
+    show_positions(b"3S6M1P1I4M", 9, 8, 20);
+    show_positions(b"5S6M", 9, 8, 16);
+    show_positions(b"6M14N5M", 16, 15, 42);
+    show_positions(b"6H5M", 29, 28, 35);
+    show_positions(b"9M", 37, 36, 47);
+}
+
+// The last base: of an M, = or X, never of an insertion or a clip.
+fn last_bases() {
+    show_positions(b"5M3I2D", 1, 5, 9);
+    show_positions(b"4M2D2I2N", 1, 4, 10);
+    show_positions(b"3S2I2D1M", 10, 9, 14);
+    show_positions(b"2=1D2X1N1I", 3, 2, 10);
+    show_positions(b"2H2P2M1P1D1P2M2P2H", 1, 1, 7);
+    show_positions(b"0M2D1M", 1, 1, 4);
+    show_positions(b"4S", 5, 4, 7);
+    show_positions(b"*", 1, 0, 3);
+}
+
+fn lengths_of_28_bits() {
+    show_positions(b"268435455M1D1M", 1, 268435454, 268435459);
+    show_positions(
+        b"268435455S268435455M268435455N1M",
+        536870911,
+        805306365,
+        805306368,
+    );
+    show_positions(
+        b"268435455S268435455M268435455N1M",
+        536870911,
+        1073741820,
+        1073741823,
+    );
+    show_cigar(b"268435455M268435455H");
+    show_repeated(b"268435455H");
+    show_repeated(b"268435455P");
+    show_repeated(b"268435455X");
+}
+
+fn simplified_lists() {
+    show_cigar(b"8M2I4M1D3M");
+    show_cigar(b"3S6M1P1I4M");
+    show_cigar(b"5S6M");
+    show_cigar(b"6M14N5M");
+    show_cigar(b"6H5M");
+    show_cigar(b"9M");
+    show_cigar(b"5=2X3=1D4X");
+    show_cigar(b"2H3S4M5S6H");
+    show_cigar(b"2P3M4P");
+    show_cigar(b"1H2P3M4P5H");
+    show_cigar(b"2I3I4M1D1D2N3N1P1P5M");
+    show_cigar(b"1M2M3I4D");
+    show_cigar(b"7H");
+    show_cigar(b"*");
+}
+
+fn prefixes() {
+    show_pair(b"*", b"*");
+    show_pair(b"*", b"5M");
+    show_pair(b"5M", b"*");
+    show_pair(b"5M", b"5M");
+    show_pair(b"5M", b"6M");
+    show_pair(b"6M", b"5M");
+    show_pair(b"5M", b"6M1I5M");
+    show_pair(b"6M1I5M", b"6M2D6M");
+    show_pair(b"6M2D6M", b"6M1I5M");
+    show_pair(b"6M1I", b"6M1I5M");
+    show_pair(b"6M1I5M", b"6M1I");
+    show_pair(b"6M1I4M", b"6M1I5M2D");
+    show_pair(b"6M1I6M", b"6M1I5M2D");
+    show_pair(b"5M1I5M", b"6M1I5M");
+    show_pair(b"6M1D", b"6M1I5M");
+    show_pair(b"3M100H", b"5M");
+    show_pair(b"5M", b"3M100H");
+    show_pair(b"2S3=", b"4M1X");
+}
+
+// By length before code, entry by entry, and by the number of entries last.
+fn ties() {
+    show_pair(b"3I2M", b"3D1M");
+    show_pair(b"3D1M", b"3I2M");
+    show_pair(b"2N9M", b"3I1M");
+    show_pair(b"1P", b"1N");
+    show_pair(b"1N", b"1P");
+    show_pair(b"6M2I1M", b"6M1D9M");
+    show_pair(b"6M1I", b"6M1I1M");
+    show_pair(b"6M1I1M", b"6M1I");
+    show_pair(b"268435455M1I", b"268435455H1S1I");
+}
+
+fn main() {
+    sam_example();
+    last_bases();
+    lengths_of_28_bits();
+    simplified_lists();
+    prefixes();
+    ties();
+}

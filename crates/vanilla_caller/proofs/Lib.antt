@@ -1,0 +1,4 @@
+pub mod Champions
+pub mod Groups
+pub mod Marks
+pub mod Orders

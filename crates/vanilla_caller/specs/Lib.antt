@@ -1,0 +1,4 @@
+pub mod Founding
+pub mod Group
+pub mod Order
+pub mod Side
