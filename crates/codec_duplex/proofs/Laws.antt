@@ -1,5 +1,5 @@
 -- Laws of the columns: their lengths, and what the test of lengths shows.
-use mathlib.Core.Bool.{true}
+use mathlib.Core.Bool.{true, and-eq-true-iff}
 use mathlib.Core.List.{List, _∷_, _++_}
 use mathlib.Core.Path.{_≡_, sym}
 use Prim.Native.Nat.{ℕ, _≤_, _<_}
@@ -7,7 +7,7 @@ use borrow.Author.Tests.{eqb-true, leb-true}
 use lib.Dec.{eqb, leb, lit<}
 use lib.ListN.{length, getD}
 use Rattle.lists.specs.Every.{every}
-use Rattle.lists.proofs.Every.{both, every-at}
+use Rattle.lists.proofs.Every.{every-at}
 use Rattle.lists.proofs.Tabulate.{length-tabulate}
 use Rattle.codec_duplex.specs.Columns.{Strand, lengths, fieldAt, column, columnsFit, Fitting}
 use Rattle.codec_duplex.specs.declared.position.Position.{Position}
@@ -22,13 +22,13 @@ others a b = length (a .quals) ∷ length (a .depths) ∷ length (a .errors) ∷
 
 module _ (a b result : Strand) (fit : columnsFit (lengths a ++ lengths b) (lengths result) ≡ true) where
   bounds : (leb (length (a .bases)) 2048 ≡ true) × (every (leb (length (a .bases))) (lengths result) ≡ true)
-  bounds = both _ _ (both (every (eqb (length (a .bases))) (others a b)) _ fit .1)
+  bounds = and-eq-true-iff _ _ .0 (and-eq-true-iff (every (eqb (length (a .bases))) (others a b)) _ .0 fit .1)
 
   pub at-most-2048 : length (a .bases) ≤ 2048
   at-most-2048 = leb-true _ _ (bounds .0)
 
   equal : (k : ℕ) → k < 7 → getD (others a b) k 0 ≡ length (a .bases)
-  equal k h = sym (eqb-true _ _ (every-at (eqb (length (a .bases))) (others a b) 0 (both _ _ fit .0) k h))
+  equal k h = sym (eqb-true _ _ (every-at (eqb (length (a .bases))) (others a b) 0 (and-eq-true-iff _ _ .0 fit .0) k h))
 
   room : (k : ℕ) → k < 4 → length (a .bases) ≤ getD (lengths result) k 0
   room k h = leb-true _ _ (every-at (leb (length (a .bases))) (lengths result) 0 (bounds .1) k h)

@@ -1,12 +1,11 @@
 -- The answer is the definition's case by the two tests of lengths and by what `judge` ensures; the columns are as lent, or as `combine_bytes` left them.
-use mathlib.Core.Bool.{Bool, true, false, cond, _&&_}
+use mathlib.Core.Bool.{Bool, true, false, cond, _&&_, and-eq-true-iff}
 use mathlib.Core.List.{_++_}
 use mathlib.Core.Path.{_≡_, refl, sym, _∙_, ap}
 use Prim.Native.Nat.{ℕ}
 use borrow.Author.Tests.{not-true, not-false}
 use lib.Ieee.{Float}
 use Rattle.lists.specs.Every.{every}
-use Rattle.lists.proofs.Every.{both}
 use Rattle.codec_duplex.specs.Columns.{Strand, strand, lengths, columnsFit}
 use Rattle.codec_duplex.specs.Combining.{outcome}
 use Rattle.codec_duplex.specs.Limits.{Outcome, refused, outcomeOf, isDuplex}
@@ -77,7 +76,7 @@ tested c =
 
 -- both tests were met
 fits : (c : tie.Else1) → (Even (c .before) ≡ true) × (Fit (c .before) ≡ true)
-fits c = both _ _ (sym (tested (c .before)) ∙ not-false _ (c .if1 .left))
+fits c = and-eq-true-iff _ _ .0 (sym (tested (c .before)) ∙ not-false _ (c .if1 .left))
 
 -- the limits judged the strands' tallies
 judgement : (c : tie.After-judge) → outcomeOf (c .judge .result) ≡ byteOutcome (first (c .before .before .before)) (second (c .before .before .before)) (lent (c .before .before .before)) (c .before .before .before .before .before .before .before .before .before .before .before .before .before .before .before .before .before .args .max-disagreements) (c .before .before .before .before .before .before .before .before .before .before .before .before .before .before .before .before .before .args .max-rate)
