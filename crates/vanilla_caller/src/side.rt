@@ -4,8 +4,7 @@ use raw_bam::prefix::is_cigar_smaller;
 use raw_bam::simplified::simplify_cigar_from_raw;
 ghost use mathlib.Core.Path.{_≡_};
 ghost use Prim.Native.Nat.{_≤_};
-ghost use lib.ListN.{length};
-ghost use Rattle.lists.specs.Written.{written};
+ghost use lib.ListN.{length, take};
 ghost use Rattle.raw_bam.specs.Prefix.{isPrefix, smaller};
 ghost use Rattle.vanilla_caller.specs.Side.{HasRecord, listOf};
 
@@ -20,7 +19,7 @@ pub fn simplified_list(
 ) -> usize
     requires { ⌜ HasRecord (now ops) (now starts) (now counts) (now reverse) i ⌝ }
     requires { ⌜ 64 ≤ length (now entries) ⌝ }
-    ensures { λ r. ⌜ (r ≡ length (listOf (now (ops .entry)) (now (starts .entry)) (now (counts .entry)) (now (reverse .entry)) i)) × (r ≤ 64) × (now (entries .exit) ≡ written (listOf (now (ops .entry)) (now (starts .entry)) (now (counts .entry)) (now (reverse .entry)) i) (now (entries .entry))) ⌝ }
+    ensures { λ r. ⌜ (take r (now (entries .exit)) ≡ listOf (now (ops .entry)) (now (starts .entry)) (now (counts .entry)) (now (reverse .entry)) i) × (r ≡ length (listOf (now (ops .entry)) (now (starts .entry)) (now (counts .entry)) (now (reverse .entry)) i)) × (r ≤ 64) ⌝ }
 {
     let start = starts[i] as usize;
     let end = start + counts[i] as usize;

@@ -6,8 +6,7 @@ use mathlib.Core.Path.{_≡_, refl, sym, _∙_, ap}
 use Prim.Native.Nat.{ℕ, _+_, _-_, _≤_}
 use native.Mathlib.Omega.{arith}
 use borrow.Author.Needs.{needs}
-use lib.ListN.{length, take, drop, getD, length-set, drop-of-length-le}
-use Rattle.lists.proofs.Written.{take-count}
+use lib.ListN.{length, drop, getD, length-set, drop-of-length-le}
 use Rattle.raw_bam.specs.Prefix.{isPrefix}
 use Rattle.vanilla_caller.specs.Founding.{matches}
 use Rattle.vanilla_caller.specs.Side.{listOf}
@@ -30,14 +29,6 @@ Inv-loop ops starts counts reverse order k grouped₀ first count size₀ j₀ g
 abbrev μ-loop : tie.MeasureT-loop
 μ-loop ops starts counts reverse order k grouped₀ first count size₀ j₀ grouped size j = length order - j
 
--- what the buffer's first places hold
-held : (c : tie.After-simplified-list Inv-loop μ-loop)
-    → let args = c .before .before .before .before .before .before .before .before .before .args in
-    take (c .simplified-list .result) (c .simplified-list .last .1 .1 .1 .1 .1 .0) ≡ listOf (args .ops .now) (args .starts .now) (args .counts .now) (args .reverse .now) (getD (args .order .now) (args .k) 0)
-held c =
-    let args = c .before .before .before .before .before .before .before .before .before .args in
-    take-count (listOf (args .ops .now) (args .starts .now) (args .counts .now) (args .reverse .now) (getD (args .order .now) (args .k) 0)) _ _ _ (c .simplified-list .ensures .0) (c .simplified-list .ensures .2)
-
 -- what the comparison answers
 compared : (c : tie.After-is-prefix-of Inv-loop μ-loop)
     → let at = c .before .before .before .before in
@@ -48,7 +39,7 @@ compared c =
     let at = c .before .before .before .before in
     let args = at .before .before .before .before .before .before .before .before .before .before .before .args in
     let lists = listOf (args .ops .now) (args .starts .now) (args .counts .now) (args .reverse .now) in
-    c .is-prefix-of .ensures ∙ ap (isPrefix (lists (getD (args .order .now) (at .loop .j) 0))) (held (at .before .before))
+    c .is-prefix-of .ensures ∙ ap (isPrefix (lists (getD (args .order .now) (at .loop .j) 0))) (at .before .before .simplified-list .ensures .0)
 
 mul-simplified-list : tie.Need-mul-simplified-list Inv-loop μ-loop
 mul-simplified-list c = search needs
@@ -83,7 +74,7 @@ array-share-prefix-first c = search needs
 slice-aggregate-is-prefix-of : tie.Need-slice-aggregate-is-prefix-of Inv-loop μ-loop
 slice-aggregate-is-prefix-of c =
     let called = c .before .before .before .before .before in
-    rw (held called) (called .simplified-list .ensures .0)
+    rw (called .simplified-list .ensures .0) (called .simplified-list .ensures .1)
 
 is-prefix-of-requires : tie.Need-is-prefix-of-requires Inv-loop μ-loop
 is-prefix-of-requires c κs =

@@ -6,11 +6,11 @@ use mathlib.Core.Path.{_≡_, refl, sym, _∙_, ap}
 use Prim.Native.Nat.{ℕ, _+_, _-_, _≤_}
 use native.Mathlib.Omega.{arith}
 use borrow.Author.Needs.{needs}
-use lib.ListN.{length, take, drop, getD, drop-of-length-le}
+use lib.ListN.{length, drop, getD, drop-of-length-le}
 use Rattle.lists.specs.Tabulate.{tabulate}
 use Rattle.lists.specs.Written.{written}
 use Rattle.lists.proofs.Tabulate.{length-tabulate, set-tabulate}
-use Rattle.lists.proofs.Written.{length-written, set-written, written-again, take-count}
+use Rattle.lists.proofs.Written.{length-written, set-written, written-again}
 use Rattle.raw_bam.specs.Prefix.{isPrefix}
 use Rattle.vanilla_caller.specs.Founding.{matches, groupAt}
 use Rattle.vanilla_caller.specs.Group.{isIn}
@@ -31,14 +31,6 @@ Inv-loop ops starts counts reverse order place stays₀ first count j₀ stays j
 
 abbrev μ-loop : tie.MeasureT-loop
 μ-loop ops starts counts reverse order place stays₀ first count j₀ stays j = length order - j
-
--- what the buffer's first places hold
-held : (c : tie.After-simplified-list Inv-loop μ-loop)
-    → let args = c .before .before .before .before .before .before .before .before .before .before .before .before .before .args in
-    take (c .simplified-list .result) (c .simplified-list .last .1 .1 .1 .1 .1 .0) ≡ listOf (args .ops .now) (args .starts .now) (args .counts .now) (args .reverse .now) (getD (args .order .now) (args .place) 0)
-held c =
-    let args = c .before .before .before .before .before .before .before .before .before .before .before .before .before .args in
-    take-count (listOf (args .ops .now) (args .starts .now) (args .counts .now) (args .reverse .now) (getD (args .order .now) (args .place) 0)) _ _ _ (c .simplified-list .ensures .0) (c .simplified-list .ensures .2)
 
 -- as long as it was lent
 kept : (c : tie.At-loop Inv-loop μ-loop) → length (c .loop .stays) ≡ length (c .before .before .before .before .before .before .before .before .before .before .before .before .before .before .before .args .stays .now)
@@ -87,7 +79,7 @@ array-share-prefix-first c = search needs
 slice-aggregate-is-prefix-of : tie.Need-slice-aggregate-is-prefix-of Inv-loop μ-loop
 slice-aggregate-is-prefix-of c =
     let called = c .before .before .before .before .before in
-    rw (held called) (called .simplified-list .ensures .0)
+    rw (called .simplified-list .ensures .0) (called .simplified-list .ensures .1)
 
 is-prefix-of-requires : tie.Need-is-prefix-of-requires Inv-loop μ-loop
 is-prefix-of-requires c κs =
@@ -118,7 +110,7 @@ loop-again c =
     let i = getD order j 0 in
     let done = at .loop .inv .0 in
     let step = matches-step lists own order j (omega arith) in
-    let answer : c .before .is-prefix-of .result ≡ isPrefix (lists i) own = c .before .is-prefix-of .ensures ∙ ap (isPrefix (lists i)) (held (at .before .before)) in
+    let answer : c .before .is-prefix-of .result ≡ isPrefix (lists i) own = c .before .is-prefix-of .ensures ∙ ap (isPrefix (lists i)) (at .before .before .simplified-list .ensures .0) in
     let in-range = start .pre .1 .0 j (omega arith) in
     ⊎-elim
     (λ w.

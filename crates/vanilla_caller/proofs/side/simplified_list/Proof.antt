@@ -4,6 +4,8 @@ use mathlib.Core.Path.{_≡_}
 use Prim.Native.Nat.{_+_, _-_}
 use native.Mathlib.Omega.{arith}
 use lib.ListN.{getD, take, drop, length-take}
+use Rattle.lists.proofs.Written.{take-count}
+use Rattle.raw_bam.specs.Simplified.{simplified}
 use Rattle.raw_bam.proofs.Joining.{length-simplified}
 use Rattle.vanilla_caller.specs.Side.{listOf}
 use borrow.Author.Needs.{needs}
@@ -62,10 +64,11 @@ returns c =
     let same : from + count - from ≡ count = omega arith in
     let ops = take count (drop from (args .ops .now)) in
     let answer = c .before .before .simplify-cigar-from-raw .ensures in
-    let n = rw same at (answer .0) in (
+    let n = rw same at (answer .0) in
+    let list = simplified (getD (args .reverse .now) (args .i) false) ops in (
+      take-count list _ _ _ n (rw same at (answer .1)),
       n,
       omega (arith, n, length-simplified (getD (args .reverse .now) (args .i) false) ops, length-take count (drop from (args .ops .now)), start .pre .0 .short),
-      rw same at (answer .1),
     )
 
 pub simplified-list-spec : {M : Type 1} → statement M
