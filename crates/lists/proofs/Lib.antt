@@ -1,5 +1,7 @@
 pub mod Cases
 pub mod Count
+pub mod Map
+pub mod Numbers
 pub mod Reverse
 pub mod Table
 pub mod Tabulate

@@ -1,4 +1,5 @@
 pub mod Count
+pub mod Numbers
 pub mod Tabulate
 pub mod Total
 pub mod Written
