@@ -1,5 +1,5 @@
 -- By the cases of a test.
-use mathlib.Core.Bool.{Bool, true, false, cond, false≢true}
+use mathlib.Core.Bool.{Bool, true, false, cond, _&&_, false≢true}
 use mathlib.Core.Path.{_≡_, refl}
 
 -- what holds of either answer holds of the answer that the test picks
@@ -11,3 +11,12 @@ cond-cases P false holds fails = fails refl
 pub both-true : (first second : Bool) → cond first second false ≡ true → (first ≡ true) × (second ≡ true)
 both-true true second e = (refl, e)
 both-true false second e = absurd (false≢true e)
+
+pub and-both : (first second : Bool) → first && second ≡ true → (first ≡ true) × (second ≡ true)
+and-both true second e = (refl, e)
+and-both false second e = absurd (false≢true e)
+
+-- a test that cannot hold fails
+pub fails-of-never : (test : Bool) → (test ≡ true → ⊥) → test ≡ false
+fails-of-never true never = absurd (never refl)
+fails-of-never false never = refl

@@ -1,6 +1,8 @@
 pub mod Cases
 pub mod Count
 pub mod Every
+pub mod Map
+pub mod Numbers
 pub mod Reverse
 pub mod Sets
 pub mod Table

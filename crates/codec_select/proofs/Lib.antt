@@ -1,0 +1,2 @@
+pub mod Namesakes
+pub mod Sides
