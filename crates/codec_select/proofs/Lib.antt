@@ -1,2 +1,4 @@
+pub mod Lengths
 pub mod Namesakes
 pub mod Sides
+pub mod Windows

@@ -1,3 +1,4 @@
-// Steps 1 to 7 of a family: which of its records are kept.
+// Steps 1 to 7 of a family: which of its records stay, and the window, phase and length of the two sides.
 pub mod fates;
 pub mod pairing;
+pub mod window;
