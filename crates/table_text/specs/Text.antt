@@ -1,6 +1,6 @@
 -- A quoted text as the bytes of the source's byte strings.
 use mathlib.Core.List.{List, [], _∷_}
-use Prim.Native.Char.{Char, code}
+use Prim.Native.Char.{code}
 use Prim.Native.Nat.{ℕ}
 use Prim.Native.String.{String, [] as nothing, _∷_ as _before_}
 
