@@ -12,6 +12,7 @@ use Rattle.lists.specs.Every.{every}
 use Rattle.table_text.specs.Decimal.{isDigit, spelled, plain, digitsNumber, number, lastDigits, decimal}
 use Rattle.table_text.specs.declared.decimal.Number.the-variants.{Value, Malformed}
 
+-- a choice that gave a value took its first arm
 pub taken : (t : Bool) (x w : ℕ) → cond t (Value x) Malformed ≡ Value w → (t ≡ true) × (x ≡ w)
 taken true x w e = (refl, cc)
 taken false x w e = let z : _≡_ {A = ℕ} 0 1 = cc in absurd (omega arith)
