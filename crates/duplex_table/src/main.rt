@@ -4,12 +4,12 @@ use libc::STDIN_FILENO;
 use libc::STDOUT_FILENO;
 use table_text::duplex;
 
-// The longest well-formed table has 24 bytes of names and 2,048 lines of 36 bytes, `A 255 65535 65535 C 255 65535 65535`
-// and a line feed: 73,752 bytes. One byte more decides the answer for any input, however it goes on: up to the first
-// malformed line each line is at most that long, so either line 2,050 has begun, or an earlier line is too long to be
-// well formed, or it was malformed before.
+// The longest well-formed table has 24 bytes of names and 2,048 lines of 36, `A 255 65535 65535 C 255 65535 65535` and a
+// line feed: 73,752 bytes. One byte more decides the answer, however the input goes on: where no line before the cut is
+// malformed, either line 2,050 has begun, or the line that is cut is already too long to be well formed.
 const INPUT_BYTES: usize = 73753;
 
+// A read that fails ends the input.
 fn main() {
     let mut input = [0u8; INPUT_BYTES];
     let got = io::read_full(STDIN_FILENO, &mut input);

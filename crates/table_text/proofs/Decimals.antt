@@ -8,9 +8,11 @@ use native.Mathlib.Omega.{arith}
 use borrow.Author.Tests.{leb-true, lt-ltb, le-ltb}
 use lib.Dec.{leb, ltb}
 use lib.ListN.{length, length-append}
-use Rattle.table_text.specs.Decimal.{allDigits, spelled, plain, digitsNumber, number, lastDigits, decimal}
+use Rattle.lists.specs.Every.{every}
+use Rattle.table_text.specs.Decimal.{isDigit, spelled, plain, digitsNumber, number, lastDigits, decimal}
 use Rattle.table_text.specs.declared.decimal.Number.the-variants.{Value, Malformed}
 
+-- a choice that gave a value took its first arm
 pub taken : (t : Bool) (x w : ℕ) → cond t (Value x) Malformed ≡ Value w → (t ≡ true) × (x ≡ w)
 taken true x w e = (refl, cc)
 taken false x w e = let z : _≡_ {A = ℕ} 0 1 = cc in absurd (omega arith)
@@ -20,11 +22,11 @@ pub number-le : (limit : ℕ) (field : List ℕ) (v : ℕ) → number limit fiel
 unfolding number digitsNumber
 number-le limit field v e = go (plain field) e
   where
-    go : (t : Bool) → cond t (cond (allDigits field && leb (spelled 0 field) limit) (Value (spelled 0 field)) Malformed) Malformed ≡ Value v → v ≤ limit
+    go : (t : Bool) → cond t (cond (every isDigit field && leb (spelled 0 field) limit) (Value (spelled 0 field)) Malformed) Malformed ≡ Value v → v ≤ limit
     go true e =
         let value : ℕ = spelled 0 field in
-        let t = taken (allDigits field && leb value limit) value v e in
-        omega (arith, leb-true value limit (and-eq-true-iff (allDigits field) (leb value limit) .0 (t .0) .1), t .1)
+        let t = taken (every isDigit field && leb value limit) value v e in
+        omega (arith, leb-true value limit (and-eq-true-iff (every isDigit field) (leb value limit) .0 (t .0) .1), t .1)
     go false e = let z : _≡_ {A = ℕ} 0 1 = cc in absurd (omega arith)
 
 level : (k n : ℕ) → lastDigits (suc k) n ≡ cond (ltb n 10) ((48 + n) ∷ []) (lastDigits k (n / 10) ++ ((48 + n % 10) ∷ []))

@@ -4,16 +4,13 @@ use mathlib.Core.List.{List, [], _∷_, _++_}
 use Prim.Native.Char.{code}
 use Prim.Native.Nat.{ℕ, zero, suc, _+_, _-_, _*_, _/_, _%_}
 use lib.Dec.{leb, ltb, eqb}
+use Rattle.lists.specs.Every.{every}
 use Rattle.table_text.specs.declared.decimal.Number.{Number}
 use Rattle.table_text.specs.declared.decimal.Number.the-variants.{Value, Malformed}
 
 -- the digits 0 to 9 are bytes in a row
 abbrev pub isDigit : ℕ → Bool
 isDigit byte = leb (code "0") byte && leb byte (code "9")
-
-unfoldable pub allDigits : List ℕ → Bool
-allDigits [] = true
-allDigits (b ∷ bs) = isDigit b && allDigits bs
 
 -- the number that v and then the digits spell
 unfoldable pub spelled : ℕ → List ℕ → ℕ
@@ -28,7 +25,7 @@ plain (b ∷ c ∷ bs) = not (eqb b (code "0"))
 
 -- the number that v and then the bytes spell, where the bytes are digits and the number is at most the limit
 unfoldable pub digitsNumber : ℕ → ℕ → List ℕ → Number
-digitsNumber limit v bytes = cond (allDigits bytes && leb (spelled v bytes) limit) (Value (spelled v bytes)) Malformed
+digitsNumber limit v bytes = cond (every isDigit bytes && leb (spelled v bytes) limit) (Value (spelled v bytes)) Malformed
 
 -- the same for one byte
 abbrev pub withDigit : ℕ → ℕ → ℕ → Number

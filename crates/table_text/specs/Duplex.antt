@@ -28,6 +28,7 @@ abbrev pub answerAt : Checked → ℕ → TableAnswer
 answerAt checked.WellFormed size = answers.Written size
 answerAt (checked.Malformed line) size = answers.Malformed line
 
+-- the answer to a table that was read
 unfoldable pub answerOf : Reading → TableAnswer
 answerOf table = answerAt (table .ending) (length (outputTable (table .rows)))
 
@@ -36,6 +37,7 @@ abbrev pub bufferAt : Refusal → List ℕ → List ℕ → List ℕ
 bufferAt none text old = written text old
 bufferAt (refused number given) text old = old
 
+-- what combining a table answers, and what it leaves in the lent buffer
 pub record CombinedTable (input old new : List ℕ) (r : TableAnswer) : Type 0 where
   pub answer : r ≡ answerOf (tableOf input)
   pub output : new ≡ bufferAt (refusalOf r) (outputTable (tableOf input .rows)) old
@@ -44,6 +46,7 @@ pub record CombinedTable (input old new : List ℕ) (r : TableAnswer) : Type 0 w
 unfoldable pub refusalText : ℕ → ℕ → List ℕ
 refusalText number given = bytesOf "refused " ++ (decimal number ++ (space ∷ (decimal given ++ (lineFeed ∷ []))))
 
+-- the text of a table, or of its refusal
 abbrev pub textAt : Refusal → List ℕ → List ℕ
 textAt none text = text
 textAt (refused number given) text = refusalText number given

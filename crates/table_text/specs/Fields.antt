@@ -15,6 +15,7 @@ use Rattle.table_text.specs.declared.fields.BaseField.the-variants as ba
 use Rattle.table_text.specs.declared.fields.NumberField.{NumberField}
 use Rattle.table_text.specs.declared.fields.NumberField.the-variants as fields
 
+-- the parts as a list
 unfoldable pub listed : Parts → List (List ℕ)
 listed (last part) = part ∷ []
 listed (ended part more) = part ∷ listed more
@@ -48,6 +49,7 @@ baseField ([] ∷ rest) = malformed
 baseField ((b ∷ []) ∷ rest) = cond (isBase b) (read b rest) malformed
 baseField ((b ∷ c ∷ bs) ∷ rest) = malformed
 
+-- a field's number, with the fields after it
 abbrev pub valueOf : Number → List (List ℕ) → Read ℕ
 valueOf (numbers.Value v) rest = read v rest
 valueOf numbers.Malformed rest = malformed

@@ -18,12 +18,14 @@ use Rattle.table_text.specs.declared.input_table.NextRow.the-variants as
 use Rattle.table_text.specs.declared.position.Row.{Row}
 use Rattle.table_text.specs.declared.position.Row.the-variants as rows
 
+-- the same bytes in the same order
 unfoldable pub sameBytes : List ℕ → List ℕ → Bool
 sameBytes [] [] = true
 sameBytes [] (y ∷ ys) = false
 sameBytes (x ∷ xs) [] = false
 sameBytes (x ∷ xs) (y ∷ ys) = eqb x y && sameBytes xs ys
 
+-- the line of the names, without its line feed
 abbrev pub inputNames : List ℕ
 inputNames = bytesOf "BA QA DA EA BB QB DB EB"
 
@@ -32,15 +34,19 @@ pub record Reading : Type 0 where
   pub rows : List (Position × Position)
   pub ending : Checked
 
+-- no line is left
 abbrev pub finished : Reading
 finished = record { rows = []; ending = checked.WellFormed }
 
+-- the first line left is malformed
 abbrev pub malformedAt : ℕ → Reading
 malformedAt line = record { rows = []; ending = checked.Malformed line }
 
+-- a row in front of those that are read after it
 abbrev pub withRow : Position → Position → Reading → Reading
 withRow first second more = record { rows = (first, second) ∷ more .rows; ending = more .ending }
 
+-- the row of a line, or that the line is malformed
 abbrev pub rowThen : ℕ → Row → Reading → Reading
 rowThen line (rows.Pair first second) more = withRow first second more
 rowThen line rows.Malformed more = malformedAt line
@@ -65,10 +71,12 @@ tableOf input = afterNames (parts lineFeed input)
 abbrev pub tableFrom : List ℕ → ℕ → ℕ → Reading
 tableFrom input line at = readFrom line (parts lineFeed (drop at input))
 
+-- the names end where line 2 begins, or are wrong
 abbrev pub NamesRead : List ℕ → Names → Type 0
 NamesRead input (names.Until at) = (at ≤ length input) × (tableOf input ≡ tableFrom input 2 at)
 NamesRead input names.Wrong = tableOf input ≡ malformedAt 1
 
+-- a line is a row and ends where the next one begins, or is malformed
 abbrev pub NextRead : List ℕ → ℕ → ℕ → NextRow → Type 0
 NextRead input line at (next.Row first second after) =
     (line ≤ 2049) × (at < after) × (after ≤ length input) × (tableFrom input line at ≡ withRow first second (tableFrom input (line + 1) after))

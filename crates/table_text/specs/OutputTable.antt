@@ -9,6 +9,7 @@ use Rattle.codec_duplex.specs.declared.position.Position.{Position}
 use Rattle.table_text.specs.Decimal.{decimal}
 use Rattle.table_text.specs.Text.{bytesOf, space, lineFeed}
 
+-- the line of the names
 abbrev pub outputNames : List ℕ
 outputNames = bytesOf "BASE QUAL DEPTH ERR\n"
 
@@ -25,6 +26,7 @@ unfoldable pub rowsText : List (Position × Position) → List ℕ
 rowsText [] = []
 rowsText (row ∷ more) = positionText (combined (row .0) (row .1)) ++ rowsText more
 
+-- the names, then the rows
 unfoldable pub outputTable : List (Position × Position) → List ℕ
 outputTable rows = outputNames ++ rowsText rows
 

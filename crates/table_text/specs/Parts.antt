@@ -14,6 +14,7 @@ unfoldable pub inFront : ℕ → Parts → Parts
 inFront b (last part) = last (b ∷ part)
 inFront b (ended part more) = ended (b ∷ part) more
 
+-- a text taken apart at each place of the byte
 unfoldable pub parts : ℕ → List ℕ → Parts
 parts byte [] = last []
 parts byte (b ∷ bs) = cond (eqb b byte) (ended [] (parts byte bs)) (inFront b (parts byte bs))

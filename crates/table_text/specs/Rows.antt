@@ -23,6 +23,7 @@ alone first (read second []) = rows.Pair first second
 alone first (read second (field ∷ more)) = rows.Malformed
 alone first malformed = rows.Malformed
 
+-- a second position in the fields after the first
 abbrev pub withSecond : Read Position → Row
 withSecond (read first rest) = alone first (positionFields rest)
 withSecond malformed = rows.Malformed

@@ -4,6 +4,7 @@ use Prim.Native.Char.{code}
 use Prim.Native.Nat.{ℕ}
 use Prim.Native.String.{String, [] as nothing, _∷_ as _before_}
 
+-- the codes of the characters, all below 128 here
 abbrev pub bytesOf : String → List ℕ
 bytesOf nothing = []
 bytesOf (_before_ c text) = code c ∷ bytesOf text

@@ -1,22 +1,19 @@
+-- The first byte, and then the digits.
 use Rattle.table_text.specs.Decimal.{number}
 use borrow.Author.Needs.{needs}
 use Rattle.table_text.proofs.decimal.read_decimal.Statement.{statement}
 use Rattle.table_text.proofs.decimal.read_decimal.Tie as tie
 
--- src/decimal.rt:65:8
 starts-plain-requires : tie.Need-starts-plain-requires
 starts-plain-requires c κs = search needs
 
--- src/decimal.rt:66:9
 read-digits-requires : tie.Need-read-digits-requires
 read-digits-requires c κs = search needs
 
--- src/decimal.rt:62:1
 returns : tie.Need-returns
 unfolding number
 returns c = rw (← c .before .before .starts-plain .ensures, c .before .if1 .taken) (c .read-digits .ensures)
 
--- src/decimal.rt:62:1
 returns-2 : tie.Need-returns-2
 unfolding number
 returns-2 c = rw (← c .before .starts-plain .ensures, c .if1 .left)

@@ -11,7 +11,8 @@ use borrow.Author.Tests.{lt-leb, le-leb, leb-true, leb-false}
 use lib.Dec.{leb}
 use lib.ListN.{length, getD, drop, drop-of-length-le}
 use lib.Seq.{drop-cons}
-use Rattle.table_text.specs.Decimal.{isDigit, allDigits, spelled, digitsNumber, withDigit}
+use Rattle.lists.specs.Every.{every}
+use Rattle.table_text.specs.Decimal.{isDigit, spelled, digitsNumber, withDigit}
 use Rattle.table_text.specs.declared.decimal.Number.the-variants.{Value, Malformed}
 use Rattle.table_text.proofs.Decimals.{taken}
 use Rattle.table_text.proofs.decimal.read_digits.Statement.{statement}
@@ -32,15 +33,15 @@ too-large false digits limit w s h e = refl
 
 module _ (limit v : ℕ) (field : List ℕ) (i : ℕ) (inside : i < length field) where
   stops : withDigit limit v (getD field i 0) ≡ Malformed → digitsNumber limit v (drop i field) ≡ Malformed
-  unfolding digitsNumber allDigits spelled
+  unfolding digitsNumber spelled
   stops e =
       let b = getD field i 0 in
       let w : ℕ = v * 10 + (b - 48) in
       let rest = drop (suc i) field in
-      rw (drop-cons field i 0 inside, too-large (isDigit b) (allDigits rest) limit w (spelled w rest) (le-spelled w rest) (left _ _ e))
+      rw (drop-cons field i 0 inside, too-large (isDigit b) (every isDigit rest) limit w (spelled w rest) (le-spelled w rest) (left _ _ e))
 
   goes-on : (w : ℕ) → withDigit limit v (getD field i 0) ≡ Value w → (digitsNumber limit v (drop i field) ≡ digitsNumber limit w (drop (i + 1) field)) × (w ≤ limit)
-  unfolding digitsNumber allDigits spelled
+  unfolding digitsNumber spelled
   goes-on w e =
       let b = getD field i 0 in
       let x : ℕ = v * 10 + (b - 48) in
@@ -49,7 +50,7 @@ module _ (limit v : ℕ) (field : List ℕ) (i : ℕ) (inside : i < length field
       (rw (drop-cons field i 0 inside, add-one, both .0, ← t .1), omega (arith, leb-true x limit (both .1), t .1))
 
 ends : (limit v : ℕ) (field : List ℕ) (i : ℕ) → v ≤ limit → length field ≤ i → Value v ≡ digitsNumber limit v (drop i field)
-unfolding digitsNumber allDigits spelled
+unfolding digitsNumber spelled
 ends limit v field i h e = simp (drop-of-length-le field e, le-leb v limit h)
 
 abbrev Inv-loop : tie.InvT-loop

@@ -17,7 +17,10 @@ abbrev μ-loop : tie.MeasureT-loop
 μ-loop input start line₀ at₀ line at = length input - at
 
 -- what the row that was read says of the table
-row-read : (c : tie.After-known-told Inv-loop μ-loop) → NextRead (c .before .before .before .before .before .before .before .args .input .now) (c .before .before .before .before .before .loop .line) (c .before .before .before .before .before .loop .at) (Row (c .before .after .given .0 .0) (c .before .after .given .0 .1 .0) (c .before .after .given .0 .1 .1 .0))
+row-read : (c : tie.After-known-told Inv-loop μ-loop)
+    → let at = c .before .before .before .before .before in
+    let found = c .before .after .given .0 in
+    NextRead (at .before .before .args .input .now) (at .loop .line) (at .loop .at) (Row (found .0) (found .1 .0) (found .1 .1 .0))
 row-read c = rw (c .before .after .given .1) at (c .before .before .before .next-row .ensures)
 
 loop-holds : tie.Need-loop-holds Inv-loop μ-loop

@@ -59,7 +59,12 @@ unfolding readFrom
 returns-3 c =
     let found = c .before .before .before .before .before in
     let inside : found .part-end .result < length (found .before .before .before .args .input .now) = omega arith in
-    rw (part-ended 10 _ _ _ (found .part-end .ensures .0) inside, le-leb _ 2049 (found .before .if1 .left), ← c .before .before .read-row .ensures, c .enum-told .given .1)
+    rw (
+      part-ended 10 _ _ _ (found .part-end .ensures .0) inside,
+      le-leb _ 2049 (found .before .if1 .left),
+      ← c .before .before .read-row .ensures,
+      c .enum-told .given .1,
+    )
 
 add-t8 : tie.Need-add-t8
 add-t8 c = search needs

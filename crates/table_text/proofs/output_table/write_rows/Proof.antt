@@ -25,13 +25,17 @@ abbrev μ-loop : tie.MeasureT-loop
 μ-loop input start output₀ to line₀ at₀ end₀ output line at end = length input - at
 
 -- what the row that was read says of the table
-row-read : (c : tie.After-known-told Inv-loop μ-loop) → NextRead (c .before .before .before .before .before .before .before .before .args .input .now) (c .before .before .before .before .before .loop .line) (c .before .before .before .before .before .loop .at) (Row (c .before .first .given .0 .0) (c .before .first .given .0 .1 .0) (c .before .first .given .0 .1 .1 .0))
+row-read : (c : tie.After-known-told Inv-loop μ-loop)
+    → let at = c .before .before .before .before .before in
+    let found = c .before .first .given .0 in
+    NextRead (at .before .before .before .args .input .now) (at .loop .line) (at .loop .at) (Row (found .0) (found .1 .0) (found .1 .1 .0))
 row-read c = rw (c .before .first .given .1) at (c .before .before .before .next-row .ensures)
 
 -- where no row is left, all are stored
 all-stored : (c : tie.At-loop Inv-loop μ-loop)
-    → rowsText (tableFrom (c .before .before .before .args .input .now) (c .loop .line) (c .loop .at) .rows) ≡ []
-    → Stored (rowsText (tableFrom (c .before .before .before .args .input .now) 2 (c .before .before .before .args .start) .rows)) (c .before .before .before .args .output .now) (c .before .before .before .args .to) (c .loop .output) (c .loop .end)
+    → let start = c .before .before .before .args in
+    rowsText (tableFrom (start .input .now) (c .loop .line) (c .loop .at) .rows) ≡ []
+    → Stored (rowsText (tableFrom (start .input .now) 2 (start .start) .rows)) (start .output .now) (start .to) (c .loop .output) (c .loop .end)
 all-stored c none = (omega (arith, c .loop .inv .5, ap length none), rw none at (c .loop .inv .6))
 
 loop-holds : tie.Need-loop-holds Inv-loop μ-loop
@@ -71,12 +75,21 @@ loop-again c =
     let wrote = c .before .before in
     let known = wrote .before .before .before in
     let at = known .before .before .before .before .before .loop in
+    let input = known .before .before .before .before .before .before .before .before .args .input .now in
+    let found = known .before .first .given .0 in
     let row = row-read known in
-    let text = positionText (combined (known .before .first .given .0 .0) (known .before .first .given .0 .1 .0)) in
-    let left = rowsText (tableFrom (known .before .before .before .before .before .before .before .before .args .input .now) (at .line + 1) (known .before .first .given .0 .1 .1 .0) .rows) in
     let rows = ap (λ (r : Reading). rowsText (r .rows)) (row .3) in
-    let more = stored-more text left (at .output) (at .end) (rw (wrote .before .before .combine .ensures) at (wrote .write-position .ensures .0)) in
-    (row .2, omega arith, omega (arith, row .0), omega (arith, wrote .write-position .ensures .1), wrote .write-position .kept .1 .0 ∙ at .inv .4, more .0 ∙ ap (λ (t : List ℕ). at .end + length t) (sym rows) ∙ at .inv .5, more .1 ∙ ap (λ (t : List ℕ). sets (at .output) (at .end) t) (sym rows) ∙ at .inv .6)
+    let left = rowsText (tableFrom input (at .line + 1) (found .1 .1 .0) .rows) in
+    let stored = rw (wrote .before .before .combine .ensures) at (wrote .write-position .ensures .0) in
+    let more = stored-more (positionText (combined (found .0) (found .1 .0))) left (at .output) (at .end) stored in (
+      row .2,
+      omega arith,
+      omega (arith, row .0),
+      omega (arith, wrote .write-position .ensures .1),
+      wrote .write-position .kept .1 .0 ∙ at .inv .4,
+      more .0 ∙ ap (λ (t : List ℕ). at .end + length t) (sym rows) ∙ at .inv .5,
+      more .1 ∙ ap (λ (t : List ℕ). sets (at .output) (at .end) t) (sym rows) ∙ at .inv .6,
+    )
 
 same-length-2 : tie.Need-same-length-2 Inv-loop μ-loop
 same-length-2 c = c .before .loop .inv .4

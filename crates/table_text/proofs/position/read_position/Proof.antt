@@ -42,7 +42,12 @@ returns-2 : tie.Need-returns-2
 unfolding positionFields
 returns-2 c =
     let after-base = c .before .before .before in
-    rw (← after-base .before .before .before .read-base .ensures, after-base .before .base .given .1, ← c .before .before .read-number .ensures, c .enum-told2 .given .1)
+    rw (
+      ← after-base .before .before .before .read-base .ensures,
+      after-base .before .base .given .1,
+      ← c .before .before .read-number .ensures,
+      c .enum-told2 .given .1,
+    )
 
 read-number-requires-2 : tie.Need-read-number-requires-2
 read-number-requires-2 c κs = search needs
@@ -58,7 +63,14 @@ unfolding positionFields
 returns-3 c =
     let after-quality = c .before .before .before in
     let after-base = after-quality .before .before .before .before in
-    rw (← after-base .before .before .before .read-base .ensures, after-base .before .base .given .1, ← after-quality .before .before .before .read-number .ensures, after-quality .before .quality .given .1, ← c .before .before .read-number2 .ensures, c .enum-told3 .given .1)
+    rw (
+      ← after-base .before .before .before .read-base .ensures,
+      after-base .before .base .given .1,
+      ← after-quality .before .before .before .read-number .ensures,
+      after-quality .before .quality .given .1,
+      ← c .before .before .read-number2 .ensures,
+      c .enum-told3 .given .1,
+    )
 
 read-number-requires-3 : tie.Need-read-number-requires-3
 read-number-requires-3 c κs = search needs
@@ -75,7 +87,16 @@ returns-4 c =
     let after-depth = c .before .before .before in
     let after-quality = after-depth .before .before .before .before in
     let after-base = after-quality .before .before .before .before in
-    rw (← after-base .before .before .before .read-base .ensures, after-base .before .base .given .1, ← after-quality .before .before .before .read-number .ensures, after-quality .before .quality .given .1, ← after-depth .before .before .before .read-number2 .ensures, after-depth .before .depth .given .1, ← c .before .before .read-number3 .ensures, c .enum-told4 .given .1)
+    rw (
+      ← after-base .before .before .before .read-base .ensures,
+      after-base .before .base .given .1,
+      ← after-quality .before .before .before .read-number .ensures,
+      after-quality .before .quality .given .1,
+      ← after-depth .before .before .before .read-number2 .ensures,
+      after-depth .before .depth .given .1,
+      ← c .before .before .read-number3 .ensures,
+      c .enum-told4 .given .1,
+    )
 
 cast-t16 : tie.Need-cast-t16
 cast-t16 c =
@@ -101,7 +122,16 @@ returns-5 c =
     let after-depth = after-error .before .before .before .before in
     let after-quality = after-depth .before .before .before .before in
     let after-base = after-quality .before .before .before .before in
-    rw (← after-base .before .before .before .read-base .ensures, after-base .before .base .given .1, ← after-quality .before .before .before .read-number .ensures, after-quality .before .quality .given .1, ← after-depth .before .before .before .read-number2 .ensures, after-depth .before .depth .given .1, ← after-error .before .before .before .read-number3 .ensures, after-error .before .error .given .1)
+    rw (
+      ← after-base .before .before .before .read-base .ensures,
+      after-base .before .base .given .1,
+      ← after-quality .before .before .before .read-number .ensures,
+      after-quality .before .quality .given .1,
+      ← after-depth .before .before .before .read-number2 .ensures,
+      after-depth .before .depth .given .1,
+      ← after-error .before .before .before .read-number3 .ensures,
+      after-error .before .error .given .1,
+    )
 
 pub read-position-spec : {M : Type 1} → statement M
 read-position-spec =

@@ -31,21 +31,41 @@ returns-2 : tie.Need-returns-2
 unfolding rowOf
 returns-2 c =
     let first = c .before .before .before in
-    rw (fields-whole _, ← first .before .before .before .read-position .ensures, first .before .first .given .1, ← c .before .before .read-position2 .ensures, c .enum-told2 .given .1)
+    rw (
+      fields-whole _,
+      ← first .before .before .before .read-position .ensures,
+      first .before .first .given .1,
+      ← c .before .before .read-position2 .ensures,
+      c .enum-told2 .given .1,
+    )
 
 returns-3 : tie.Need-returns-3
 unfolding rowOf
 returns-3 c =
     let second = c .before in
     let first = second .before .before .before .before in
-    rw (fields-whole _, ← first .before .before .before .read-position .ensures, first .before .first .given .1, ← second .before .before .before .read-position2 .ensures, second .before .second .given .1, fields-some _ _ (c .if1 .taken) .2)
+    rw (
+      fields-whole _,
+      ← first .before .before .before .read-position .ensures,
+      first .before .first .given .1,
+      ← second .before .before .before .read-position2 .ensures,
+      second .before .second .given .1,
+      fields-some _ _ (c .if1 .taken) .2,
+    )
 
 returns-4 : tie.Need-returns-4
 unfolding rowOf
 returns-4 c =
     let second = c .before in
     let first = second .before .before .before .before in
-    rw (fields-whole _, ← first .before .before .before .read-position .ensures, first .before .first .given .1, ← second .before .before .before .read-position2 .ensures, second .before .second .given .1, fields-none _ _ (c .if1 .left))
+    rw (
+      fields-whole _,
+      ← first .before .before .before .read-position .ensures,
+      first .before .first .given .1,
+      ← second .before .before .before .read-position2 .ensures,
+      second .before .second .given .1,
+      fields-none _ _ (c .if1 .left),
+    )
 
 pub read-row-spec : {M : Type 1} → statement M
 read-row-spec =
