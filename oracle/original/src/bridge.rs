@@ -1,0 +1,78 @@
+// Included as the last line of the original's module, to reach what is private there.
+
+use crate::trace::{Columns, Selected, Trace};
+
+/// Everything the original said and left behind for one family.
+pub struct Seen {
+    pub trace: Trace,
+    pub marks: Vec<bool>,
+    pub stats: CodecConsensusStats,
+    pub result: std::result::Result<usize, CodecConsensusError>,
+}
+
+/// One family through the original's own front door, reject tracking on.
+pub fn call_family(
+    options: CodecConsensusOptions,
+    strands: [Option<Columns>; 2],
+    records: &[RawRecord],
+) -> Seen {
+    let mut caller = CodecConsensusCaller::new_with_rejects_tracking(
+        String::new(),
+        String::new(),
+        options,
+        true,
+    );
+    caller.ss_caller.strands = strands.into();
+    let result = caller.consensus_reads_raw(records).map(|output| output.count);
+    Seen { trace: crate::trace::take(), marks: caller.reject_mask, stats: caller.stats, result }
+}
+
+/// Combining alone: the duplex with the tallies (both called, of these unequal), or the Rust's error.
+pub fn combine_alone(
+    options: CodecConsensusOptions,
+    first: Columns,
+    second: Columns,
+) -> std::result::Result<(Columns, u64, u64), CodecConsensusError> {
+    let caller = CodecConsensusCaller::new(String::new(), String::new(), options);
+    let (duplex, tally) =
+        caller.build_duplex_consensus_from_padded(&from_columns(first), &from_columns(second))?;
+    Ok((to_columns(&duplex), tally.bases_emitted, tally.disagreement_bases))
+}
+
+fn from_columns(columns: Columns) -> SingleStrandConsensus {
+    SingleStrandConsensus {
+        bases: columns.bases,
+        quals: columns.quals,
+        depths: columns.depths,
+        errors: columns.errors,
+        raw_read_count: 0,
+        ref_start: 0,
+        ref_end: 0,
+        is_negative_strand: false,
+    }
+}
+
+fn to_columns(strand: &SingleStrandConsensus) -> Columns {
+    Columns {
+        bases: strand.bases.clone(),
+        quals: strand.quals.clone(),
+        depths: strand.depths.clone(),
+        errors: strand.errors.clone(),
+    }
+}
+
+fn trace_columns(columns: [&SingleStrandConsensus; 3]) {
+    crate::trace::note(|trace| trace.columns = Some(columns.map(to_columns)));
+}
+
+fn trace_selected(
+    r1: &[ClippedRecordInfo],
+    r2: &[ClippedRecordInfo],
+    window: (usize, usize),
+    length: usize,
+    r1_is_negative: bool,
+) {
+    let kept = [r1, r2].map(|side| side.iter().map(|info| info.raw_idx).collect());
+    let selected = Selected { kept, window, length, r1_is_negative };
+    crate::trace::note(|trace| trace.selected = Some(selected));
+}

@@ -1,0 +1,120 @@
+//! Holds answerers against the original, family by family.
+
+use crate::answers::{Answerer, Form, run, split, written};
+use crate::generate::Calls;
+use crate::model::{Call, Ledger};
+use crate::plain::Reader;
+use crate::shrink::smallest;
+use std::collections::BTreeMap;
+
+/// Runs of a program are slow beside calls within this one.
+const TRIES_OF_PROGRAM: usize = 300;
+const TRIES_WITHIN: usize = 20_000;
+
+/// The plain reader on N generated families, in both forms.
+pub fn with_plain(seed: u64, families: usize) -> Result<(), String> {
+    let calls: Vec<Call> = Calls::new(seed).take(families).collect();
+    for form in [Form::Family, Form::Selection] {
+        let expected = Answerer(None).blocks(form, calls.iter());
+        let found = Answerer(Some(Reader(None))).blocks(form, calls.iter());
+        let answer =
+            |call: &Call| Answerer(Some(Reader(None))).block(form, call, &mut Ledger::default());
+        report(form, &calls, &expected, &found, TRIES_WITHIN, answer)?;
+        if form == Form::Family {
+            endings(&expected);
+        }
+    }
+    println!(
+        "plain reader: {families} families of seed {seed}, family call and selection: no difference"
+    );
+    Ok(())
+}
+
+/// A program on the calls given.
+pub fn with_program(form: Form, program: &str, calls: &[Call]) -> Result<(), String> {
+    let expected = Answerer(None).blocks(form, calls.iter());
+    let found = split(form, &run(program, &written(calls))?);
+    let answer =
+        |call: &Call| run(program, &written(std::slice::from_ref(call))).unwrap_or_default();
+    report(form, calls, &expected, &found, TRIES_OF_PROGRAM, answer)?;
+    println!("{program}: {} families: no difference", calls.len());
+    Ok(())
+}
+
+fn report(
+    form: Form,
+    calls: &[Call],
+    expected: &[String],
+    found: &[String],
+    tries: usize,
+    answer: impl Fn(&Call) -> String,
+) -> Result<(), String> {
+    let missing = String::new();
+    let other = |at: usize| found.get(at).unwrap_or(&missing);
+    let unlike: Vec<usize> = (0..calls.len()).filter(|&at| other(at) != &expected[at]).collect();
+    let Some(&first) = unlike.first() else {
+        let surplus = found.len() > expected.len();
+        return if surplus { Err("more answers than families".to_string()) } else { Ok(()) };
+    };
+    let right = |call: &Call| Answerer(None).block(form, call, &mut Ledger::default());
+    let differs = |call: &Call| right(call) != answer(call);
+    // After one wrong ledger all later ones are wrong too: look first where another line differs.
+    let own = |at: &usize| without_ledger(&expected[*at]) != without_ledger(other(*at));
+    let telling: Vec<usize> = unlike.iter().copied().filter(own).collect();
+    let looked = if telling.is_empty() { unlike } else { telling };
+    let call = shortest_alone(calls, looked, differs);
+    let small = smallest(&call, tries, differs);
+    Err(format!(
+        "difference at family {} of the list\n{}cut down to:\n{}original:\n{}other:\n{}",
+        first + 1,
+        first_lines(&expected[first], other(first)),
+        written(std::slice::from_ref(&small)),
+        right(&small),
+        answer(&small)
+    ))
+}
+
+fn without_ledger(block: &str) -> Vec<&str> {
+    block.lines().filter(|line| !line.starts_with("T ")).collect()
+}
+
+/// The shortest of the families that differ also when asked alone, behind the ledger they met.
+fn shortest_alone(calls: &[Call], mut unlike: Vec<usize>, differs: impl Fn(&Call) -> bool) -> Call {
+    let mut ledger = Ledger::default();
+    let met: Vec<Call> = calls
+        .iter()
+        .map(|call| {
+            let before = call.ledger.unwrap_or(ledger);
+            Answerer(None).block(Form::Family, call, &mut ledger);
+            Call { ledger: Some(before), ..call.clone() }
+        })
+        .collect();
+    let first = unlike[0];
+    unlike.sort_by_cached_key(|&at| written(&met[at..=at]).len());
+    let alone = unlike.into_iter().take(50).find(|&at| differs(&met[at]));
+    met[alone.unwrap_or(first)].clone()
+}
+
+fn first_lines(expected: &str, found: &str) -> String {
+    let mut lines = expected.lines().zip(found.lines().chain(std::iter::repeat("(nothing)")));
+    let pair = lines.find(|(right, other)| right != other);
+    pair.map_or_else(
+        || "(one is longer)\n".to_string(),
+        |(a, b)| format!("original: {a}\nother:    {b}\n"),
+    )
+}
+
+/// How many families end in which way.
+fn endings(blocks: &[String]) {
+    let mut counts: BTreeMap<String, usize> = BTreeMap::new();
+    for block in blocks {
+        let line = block.lines().next().unwrap_or_default();
+        let fields: Vec<&str> = line.split(' ').skip(1).collect();
+        let key = if fields[0] == "called" { &fields[..1] } else { &fields[..fields.len().min(2)] };
+        *counts.entry(key.join(" ")).or_default() += 1;
+    }
+    let shown: Vec<String> = counts.iter().map(|(ending, n)| format!("{ending}: {n}")).collect();
+    println!("endings: {}", shown.join(", "));
+    let called = counts.get("called").copied().unwrap_or(0);
+    println!("called: {:.1} in a hundred", 100.0 * called as f64 / blocks.len().max(1) as f64);
+}

@@ -1,0 +1,61 @@
+//! What a call adds to the ledger.
+
+use super::wrong::Wrong;
+use super::{Course, Fate, Fates, Reader};
+use crate::model::{Ending, Ledger};
+
+impl Reader {
+    pub(super) fn ledger_after(
+        &self,
+        before: &Ledger,
+        fates: &Fates,
+        ending: &Ending,
+        course: &Course,
+        tally: [u64; 2],
+    ) -> Ledger {
+        let mut after = *before;
+        let counts = &mut after.0;
+        if *ending == Ending::Empty && self.misreads(Wrong::EmptyUncounted) {
+            return after;
+        }
+        counts[Ledger::FAMILIES] += 1;
+        counts[Ledger::RECORDS] += fates.len() as u64;
+        for fate in fates.iter().flatten() {
+            counts[self.place(*fate)] += 1;
+        }
+        let called = match ending {
+            Ending::Called(columns) => Some(&columns[0]),
+            _ => None,
+        };
+        if let (Some(duplex), Course::Chosen(chosen)) = (called, course) {
+            counts[Ledger::DUPLEXES] += 1;
+            counts[Ledger::BASES] += match self.misreads(Wrong::BasesOfWindow) {
+                true => (chosen.window.1 - chosen.window.0 + 1) as u64,
+                false => duplex.bases.len() as u64,
+            };
+        }
+        if called.is_some() || self.misreads(Wrong::RejectedTallied) {
+            let hidden = called.filter(|_| self.misreads(Wrong::DuplexBasesCalled));
+            let hidden =
+                hidden.map_or(0, |d| d.bases.iter().filter(|b| **b == b'N').count() as u64);
+            counts[Ledger::DUPLEX_BASES] += tally[0].saturating_sub(hidden);
+            counts[Ledger::DISAGREEMENTS] += tally[1];
+        }
+        if *ending == Ending::Rejected(10) {
+            let records = fates.iter().filter(|fate| **fate == Some(Fate::Reason(10))).count();
+            let by_records = self.misreads(Wrong::RejectedByRecords);
+            counts[Ledger::REJECTED_FAMILIES] += if by_records { records as u64 } else { 1 };
+        }
+        after
+    }
+
+    fn place(&self, fate: Fate) -> usize {
+        match fate {
+            Fate::Reason(reason) => Ledger::REASONS + usize::from(reason),
+            Fate::PassedOver => Ledger::PASSED_OVER,
+            Fate::NoStrand if self.misreads(Wrong::NoStrandUsed) => Ledger::USED,
+            Fate::NoStrand => Ledger::NO_STRAND,
+            Fate::Used => Ledger::USED,
+        }
+    }
+}
