@@ -27,15 +27,35 @@ pub fn call_family(
     Seen { trace: crate::trace::take(), marks: caller.reject_mask, stats: caller.stats, result }
 }
 
+/// Combining alone, made ready once so that a call can be repeated with nothing around it.
+pub struct CombiningAlone {
+    caller: CodecConsensusCaller,
+    strands: [SingleStrandConsensus; 2],
+}
+
+/// What the original returns, kept shut: taking its columns out is not part of a call.
+pub struct Duplex(SingleStrandConsensus, DuplexBaseTally);
+
+impl CombiningAlone {
+    pub fn new(options: CodecConsensusOptions, first: Columns, second: Columns) -> Self {
+        let caller = CodecConsensusCaller::new(String::new(), String::new(), options);
+        Self { caller, strands: [first, second].map(from_columns) }
+    }
+
+    pub fn call(&self) -> std::result::Result<Duplex, CodecConsensusError> {
+        let [first, second] = &self.strands;
+        let (duplex, tally) = self.caller.build_duplex_consensus_from_padded(first, second)?;
+        Ok(Duplex(duplex, tally))
+    }
+}
+
 /// Combining alone: the duplex with the tallies (both called, of these unequal), or the Rust's error.
 pub fn combine_alone(
     options: CodecConsensusOptions,
     first: Columns,
     second: Columns,
 ) -> std::result::Result<(Columns, u64, u64), CodecConsensusError> {
-    let caller = CodecConsensusCaller::new(String::new(), String::new(), options);
-    let (duplex, tally) =
-        caller.build_duplex_consensus_from_padded(&from_columns(first), &from_columns(second))?;
+    let Duplex(duplex, tally) = CombiningAlone::new(options, first, second).call()?;
     Ok((to_columns(&duplex), tally.bases_emitted, tally.disagreement_bases))
 }
 

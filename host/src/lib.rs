@@ -1,0 +1,158 @@
+//! The proved combining step of a CODEC duplex, called from Rust.
+//!
+//! [`combine`] takes depths and errors as `u16`, [`combine_bytes`] as byte pairs, low byte first. Neither panics,
+//! whatever the columns hold and however long they are; what does not fit together is [`Answer::Refused`].
+//!
+//! ```
+//! use codec_host::{Answer, Limits, Results, Strand, combine};
+//!
+//! let a = Strand { bases: b"A", quals: &[30], depths: &[5], errors: &[1] };
+//! let b = Strand { bases: b"C", quals: &[20], depths: &[4], errors: &[1] };
+//! let (mut bases, mut quals, mut depths, mut errors) = ([0], [0], [0], [0]);
+//! let results = Results {
+//!     bases: &mut bases,
+//!     quals: &mut quals,
+//!     depths: &mut depths,
+//!     errors: &mut errors,
+//! };
+//! let answer = combine(a, b, Limits { max_disagreements: 10, max_rate: 1.0 }, results);
+//! assert_eq!(answer, Answer::Duplex { bases: 1, disagreements: 1 });
+//! assert_eq!((bases, quals, depths, errors), ([b'A'], [10], [9], [4]));
+//! ```
+
+mod sys;
+pub mod text;
+
+// The exported call wants the low byte first, as `u16` lies in memory on the only machine the library is made for.
+#[cfg(not(target_endian = "little"))]
+compile_error!("a column of u16 cannot be lent as byte pairs here");
+
+/// Most positions of a column.
+pub const MAX_POSITIONS: usize = 2_048;
+
+/// The columns of one strand; `W` is `u16`, or `u8` where depths and errors are byte pairs.
+#[derive(Clone, Copy, Debug)]
+pub struct Strand<'a, W = u16> {
+    pub bases: &'a [u8],
+    pub quals: &'a [u8],
+    pub depths: &'a [W],
+    pub errors: &'a [W],
+}
+
+/// Where the duplex goes: into the first places, the rest stays as it is.
+#[derive(Debug)]
+pub struct Results<'a, W = u16> {
+    pub bases: &'a mut [u8],
+    pub quals: &'a mut [u8],
+    pub depths: &'a mut [W],
+    pub errors: &'a mut [W],
+}
+
+/// A duplex with more disagreements, or with a rate of them above this, is rejected; NaN rejects none.
+#[derive(Clone, Copy, Debug)]
+pub struct Limits {
+    pub max_disagreements: u64,
+    pub max_rate: f64,
+}
+
+impl Limits {
+    /// Rejects nothing.
+    pub const NONE: Limits = Limits { max_disagreements: u64::MAX, max_rate: f64::NAN };
+}
+
+/// Only `Duplex` writes into the results.
+#[derive(Clone, Copy, Debug, PartialEq)]
+pub enum Answer {
+    /// The positions that both strands call, and how many of them differ.
+    Duplex { bases: u32, disagreements: u32 },
+    /// The disagreements above the count limit.
+    DisagreementCount(u32),
+    /// The rate above the rate limit.
+    DisagreementRate(f64),
+    /// The number of document 01's table, and what goes with it.
+    Refused { number: u32, with: u32 },
+}
+
+/// The duplex of two strands of equal length, each position from the same position of both.
+pub fn combine(a: Strand<'_>, b: Strand<'_>, limits: Limits, results: Results<'_>) -> Answer {
+    combine_bytes(a.into_bytes(), b.into_bytes(), limits, results.into_bytes())
+}
+
+/// The same with depths and errors as byte pairs, low byte first.
+pub fn combine_bytes(
+    a: Strand<'_, u8>,
+    b: Strand<'_, u8>,
+    limits: Limits,
+    results: Results<'_, u8>,
+) -> Answer {
+    // SAFETY: every pointer goes with its own slice's length, and `&mut` keeps the results apart.
+    let answer = unsafe {
+        sys::codec_ffi_combine(
+            a.bases.as_ptr(),
+            a.bases.len(),
+            a.quals.as_ptr(),
+            a.quals.len(),
+            a.depths.as_ptr(),
+            a.depths.len(),
+            a.errors.as_ptr(),
+            a.errors.len(),
+            b.bases.as_ptr(),
+            b.bases.len(),
+            b.quals.as_ptr(),
+            b.quals.len(),
+            b.depths.as_ptr(),
+            b.depths.len(),
+            b.errors.as_ptr(),
+            b.errors.len(),
+            limits.max_disagreements,
+            limits.max_rate,
+            results.bases.as_mut_ptr(),
+            results.bases.len(),
+            results.quals.as_mut_ptr(),
+            results.quals.len(),
+            results.depths.as_mut_ptr(),
+            results.depths.len(),
+            results.errors.as_mut_ptr(),
+            results.errors.len(),
+        )
+    };
+    match answer.kind {
+        0 => Answer::Duplex { bases: answer.bases, disagreements: answer.disagreements },
+        1 => Answer::DisagreementCount(answer.disagreements),
+        2 => Answer::DisagreementRate(answer.rate),
+        3 => Answer::Refused { number: answer.refusal, with: answer.with },
+        kind => unreachable!("the contract has kinds 0 to 3, this is {kind}"),
+    }
+}
+
+impl<'a> Strand<'a> {
+    fn into_bytes(self) -> Strand<'a, u8> {
+        Strand {
+            bases: self.bases,
+            quals: self.quals,
+            depths: pairs(self.depths),
+            errors: pairs(self.errors),
+        }
+    }
+}
+
+impl<'a> Results<'a> {
+    fn into_bytes(self) -> Results<'a, u8> {
+        Results {
+            bases: self.bases,
+            quals: self.quals,
+            depths: pairs_mut(self.depths),
+            errors: pairs_mut(self.errors),
+        }
+    }
+}
+
+fn pairs(words: &[u16]) -> &[u8] {
+    // SAFETY: the same memory for the same time; a byte needs no alignment.
+    unsafe { std::slice::from_raw_parts(words.as_ptr().cast(), size_of_val(words)) }
+}
+
+fn pairs_mut(words: &mut [u16]) -> &mut [u8] {
+    // SAFETY: as in `pairs`, and any two bytes are a `u16`.
+    unsafe { std::slice::from_raw_parts_mut(words.as_mut_ptr().cast(), size_of_val(words)) }
+}

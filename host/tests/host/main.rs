@@ -1,0 +1,8 @@
+//! The wrapper and the exported call, from outside.
+
+mod c_host;
+mod call;
+mod columns;
+mod limits;
+mod positions;
+mod text_form;
