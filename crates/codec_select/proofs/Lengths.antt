@@ -122,3 +122,12 @@ module _ (r1 r2 : Alignment) (h : Admitted r1) (k : Admitted r2) where
     -- the window is not empty
     pub kept-nonempty : first ≤ last
     kept-nonempty = rw (kept-window .0) at (covered-nonempty r1Negative legacy last (kept-measured .first) (kept-measured .second))
+
+  -- the true window's start lies in both alignments too
+  pub kept-start : (r1Negative : Bool) (minimum first last n : ℕ) → overlap r1 r2 r1Negative false minimum ≡ Kept first last n → Covers r1 first × Covers r2 first
+  unfolding spanOf
+  kept-start r1Negative minimum first last n kept =
+      let start = kept-window r1Negative false minimum first last n kept .0 in
+      let nonempty = kept-nonempty r1Negative false minimum first last n kept in
+      let m = kept-measured r1Negative false minimum first last n kept in
+      (omega arith, omega arith)
