@@ -1,2 +1,3 @@
+pub mod Entered
 pub mod Namesakes
 pub mod Sides
