@@ -1,3 +1,4 @@
+pub mod Entered
 pub mod Lengths
 pub mod Namesakes
 pub mod Sides

@@ -14,13 +14,18 @@ use Rattle.lists.proofs.Count.{count-into, count-both}
 use Rattle.lists.proofs.Numbers.{numbers-at, numbers-after, length-numbers}
 use Rattle.codec_select.specs.Pairing.{isNamesake, namesakesFrom, namesakes, remains, isPair, isFirst, isEntered, opensPair, earlierRecords, laterOf}
 
--- two records, of which record i is the first
-pair-of : (verdicts : List Bool) (i : ℕ) (records : List ℕ) → isPair verdicts records ≡ true → isFirst i records ≡ true → records ≡ i ∷ getD records 1 0 ∷ []
-unfolding isPair isFirst
-pair-of verdicts i [] pair first = absurd (false≢true pair)
-pair-of verdicts i (one ∷ []) pair first = absurd (false≢true pair)
-pair-of verdicts i (one ∷ two ∷ []) pair first = rw (eqb-true one i first)
-pair-of verdicts i (one ∷ two ∷ three ∷ more) pair first = absurd (false≢true pair)
+-- a pair is two records
+pub pair-two : (verdicts : List Bool) (records : List ℕ) → isPair verdicts records ≡ true → records ≡ getD records 0 0 ∷ getD records 1 0 ∷ []
+unfolding isPair
+pair-two verdicts [] pair = absurd (false≢true pair)
+pair-two verdicts (one ∷ []) pair = absurd (false≢true pair)
+pair-two verdicts (one ∷ two ∷ []) pair = refl
+pair-two verdicts (one ∷ two ∷ three ∷ more) pair = absurd (false≢true pair)
+
+first-is : (i : ℕ) (records : List ℕ) → isFirst i records ≡ true → getD records 0 0 ≡ i
+unfolding isFirst
+first-is i [] first = absurd (false≢true first)
+first-is i (one ∷ more) first = eqb-true one i first
 
 module _ (flags names : List ℕ) (verdicts : List Bool) where
   -- the earlier record of a pair remains, and has no namesake but the later
@@ -32,7 +37,7 @@ module _ (flags names : List ℕ) (verdicts : List Bool) where
   unfolding opensPair isEntered laterOf
   opens-namesakes i opens =
       let t = and-both _ _ opens in
-      pair-of verdicts i (namesakes flags names i) (and-both (remains (getD flags i 0)) _ (t .0) .1) (t .1)
+      rw (first-is i (namesakes flags names i) (t .1)) at (pair-two verdicts (namesakes flags names i) (and-both (remains (getD flags i 0)) _ (t .0) .1))
 
   -- a record of the list has the name, and remains
   pub namesakes-at : (i k : ℕ) → k < length (namesakes flags names i) → let x = getD (namesakes flags names i) k 0 in (x < length flags) × (getD names x 0 ≡ getD names i 0) × (remains (getD flags x 0) ≡ true)
@@ -77,7 +82,7 @@ module _ (flags names : List ℕ) (verdicts : List Bool) where
       let name : getD names i 0 ≡ getD names j 0 = sym (later-namesake i opens-i .1) ∙ ap (λ (x : ℕ). getD names x 0) same ∙ later-namesake j opens-j .1 in
       let heads = sym (opens-namesakes i opens-i) ∙ ap (λ (x : ℕ). namesakesFrom flags names x 0) name ∙ opens-namesakes j opens-j in
       cc) in
-      let counted : length (numbersFrom opens 0 n) ≡ countBelow opens n = rw (zero-add, zero-add) at (length-numbers opens 0 n) in
+      let counted : length (numbersFrom opens 0 n) ≡ countBelow opens n = simp zero-add at (length-numbers opens 0 n) in
       omega (arith, count-both opens n)
 
   -- also of those that were passed and are still to come
