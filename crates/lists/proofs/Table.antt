@@ -17,16 +17,16 @@ T-right false b t = absurd t
 
 module _ {A : Type 0} (rule : ℕ → A → Bool) where
   -- the rule holds of each entry and its place, counted from i
-  abbrev pub every : ℕ → List A → Bool
-  every i [] = true
-  every i (x ∷ xs) = cond (rule i x) (every (suc i) xs) false
+  abbrev pub everyPlace : ℕ → List A → Bool
+  everyPlace i [] = true
+  everyPlace i (x ∷ xs) = cond (rule i x) (everyPlace (suc i) xs) false
 
-  every-from : (xs : List A) (d : A) (i : ℕ) → T (every i xs) → (k : ℕ) → k < length xs → T (rule (i + k) (getD xs k d))
-  every-from [] d i t k h = absurd (not-suc-le-zero h)
-  every-from (x ∷ xs) d i t zero h = rw add-zero (T-left (rule i x) (every (suc i) xs) t)
-  every-from (x ∷ xs) d i t (suc k) h =
+  everyPlace-from : (xs : List A) (d : A) (i : ℕ) → T (everyPlace i xs) → (k : ℕ) → k < length xs → T (rule (i + k) (getD xs k d))
+  everyPlace-from [] d i t k h = absurd (not-suc-le-zero h)
+  everyPlace-from (x ∷ xs) d i t zero h = rw add-zero (T-left (rule i x) (everyPlace (suc i) xs) t)
+  everyPlace-from (x ∷ xs) d i t (suc k) h =
       subst (λ (m : ℕ). T (rule m (getD xs k d))) (suc-add i k ∙ sym (add-suc i k))
-      (every-from xs d (suc i) (T-right (rule i x) (every (suc i) xs) t) k (le-of-suc-le-suc h))
+      (everyPlace-from xs d (suc i) (T-right (rule i x) (everyPlace (suc i) xs) t) k (le-of-suc-le-suc h))
 
-  pub every-at : (xs : List A) (d : A) → T (every 0 xs) → (k : ℕ) → k < length xs → T (rule k (getD xs k d))
-  every-at xs d t k h = rw zero-add at (every-from xs d 0 t k h)
+  pub everyPlace-at : (xs : List A) (d : A) → T (everyPlace 0 xs) → (k : ℕ) → k < length xs → T (rule k (getD xs k d))
+  everyPlace-at xs d t k h = rw zero-add at (everyPlace-from xs d 0 t k h)

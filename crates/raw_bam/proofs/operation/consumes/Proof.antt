@@ -8,7 +8,7 @@ use borrow.Author.Needs.{needs}
 use borrow.Author.Tests.{ne-eqb}
 use lib.Dec.{T, ltb, ltb→lt}
 use lib.ListN.{getD}
-use Rattle.lists.proofs.Table.{T-left, T-right, every, every-at}
+use Rattle.lists.proofs.Table.{T-left, T-right, everyPlace, everyPlace-at}
 use Rattle.raw_bam.specs.Cigar.{opCode}
 use Rattle.raw_bam.specs.Operations.{Operation, said, operations, consumesRead, consumesReference}
 use Rattle.raw_bam.specs.declared.operation.Consumption.{Consumption}
@@ -38,10 +38,10 @@ unfolding right
 right-row code row t = (alike-eq (row .read) (consumesRead code) (T-left (alike (row .read) (consumesRead code)) (alike (row .reference) (consumesReference code)) t), alike-eq (row .reference) (consumesReference code) (T-right (alike (row .read) (consumesRead code)) (alike (row .reference) (consumesReference code)) t))
 
 -- a code above all the table's codes has no row
-said-none : (column : Operation → Bool) (code limit i : ℕ) (ops : List Operation) → limit ≤ code → T (every (λ (_ : ℕ) op. ltb (op .code) limit) i ops) → false ≡ said column code ops
+said-none : (column : Operation → Bool) (code limit i : ℕ) (ops : List Operation) → limit ≤ code → T (everyPlace (λ (_ : ℕ) op. ltb (op .code) limit) i ops) → false ≡ said column code ops
 said-none column code limit i [] h t = refl
 said-none column code limit i (op ∷ ops) h t =
-    let rest = every (λ (_ : ℕ) (op : Operation). ltb (op .code) limit) (suc i) ops in
+    let rest = everyPlace (λ (_ : ℕ) (op : Operation). ltb (op .code) limit) (suc i) ops in
     let below = ltb→lt (op .code) limit (T-left (ltb (op .code) limit) rest t) in
     rw (ne-eqb code (op .code) (omega arith)) (said-none column code limit (suc i) ops h (T-right (ltb (op .code) limit) rest t))
 
@@ -56,7 +56,7 @@ array-copy-out-result c = search needs
 
 returns : tie.Need-returns
 unfolding table right alike consumesRead consumesReference
-returns c = right-row (opCode (c .before .before .args .word)) (getD table (opCode (c .before .before .args .word)) (record { read = false; reference = false })) (every-at right table (record { read = false; reference = false }) tt (opCode (c .before .before .args .word)) (search needs))
+returns c = right-row (opCode (c .before .before .args .word)) (getD table (opCode (c .before .before .args .word)) (record { read = false; reference = false })) (everyPlace-at right table (record { read = false; reference = false }) tt (opCode (c .before .before .args .word)) (search needs))
 
 returns-2 : tie.Need-returns-2
 unfolding consumesRead consumesReference
