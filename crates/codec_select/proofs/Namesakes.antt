@@ -9,7 +9,8 @@ use native.Mathlib.Omega.{arith}
 use borrow.Author.Tests.{eq-eqb, ne-eqb}
 use lib.ListN.{length, getD}
 use Rattle.lists.proofs.Numbers.{numbers-yes, numbers-end}
-use Rattle.codec_select.specs.Pairing.{Reached, isNamesake, namesakesFrom, namesakes, isPair, isFirst, isEntered, opensPair, laterOf}
+use Rattle.codec_select.specs.Pairing.{isNamesake, namesakesFrom, namesakes, isPair, isFirst, isEntered, opensPair, laterOf}
+use Rattle.codec_select.specs.Search.{Reached}
 
 module _ {flags names : List ℕ} {name from r : ℕ} (reached : Reached flags names name from r) where
   -- the search has found the next one

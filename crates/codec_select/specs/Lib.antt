@@ -1,4 +1,5 @@
 pub mod Fates
 pub mod Pairing
 pub mod Records
+pub mod Search
 pub mod Window

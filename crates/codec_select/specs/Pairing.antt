@@ -1,8 +1,8 @@
 -- Document 01, 'A family', steps 1 and 2. A family is given by its columns: flags, name numbers, pair verdicts.
-use mathlib.Core.Bool.{Bool, true, false, cond, not, _&&_, _||_}
+use mathlib.Core.Bool.{Bool, false, cond, not, _&&_, _||_}
 use mathlib.Core.List.{List, [], _∷_, map}
 use mathlib.Core.Path.{_≡_}
-use Prim.Native.Nat.{ℕ, _-_, _≤_, _<_}
+use Prim.Native.Nat.{ℕ, _-_}
 use lib.Dec.{eqb}
 use lib.ListN.{length, getD}
 use Rattle.lists.specs.Numbers.{numbersFrom}
@@ -16,7 +16,7 @@ pub record Columns (flags names : List ℕ) (verdicts : List Bool) : Type 0 wher
   pub as-many-names : length names ≡ length flags
   pub as-many-verdicts : length verdicts ≡ length flags
 
--- step 1: flag 256 or 2048
+-- step 1: flag 256 or 2048, which SAM calls not primary
 abbrev pub notPrimary : ℕ → Bool
 notPrimary flags = hasFlag flags SECONDARY || hasFlag flags SUPPLEMENTARY
 
@@ -84,9 +84,3 @@ sideR1 flags names verdicts = map (r1Of flags names) (earlierRecords flags names
 
 unfoldable pub sideR2 : List ℕ → List ℕ → List Bool → List ℕ
 sideR2 flags names verdicts = map (r2Of flags names) (earlierRecords flags names verdicts)
-
--- the search for a name's next remaining record from one on has come to record r, or to the end
-pub record Reached (flags names : List ℕ) (name from r : ℕ) : Type 0 where
-  pub within : r ≤ length flags
-  pub none-between : namesakesFrom flags names name from ≡ namesakesFrom flags names name r
-  pub found : r < length flags → isNamesake flags names name r ≡ true

@@ -9,10 +9,11 @@ use raw_bam::flags::is_supplementary;
 ghost use mathlib.Core.Bool.{cond};
 ghost use mathlib.Core.Path.{_≡_};
 ghost use Prim.Native.Nat.{_*_, _≤_, _<_};
-ghost use lib.ListN.{length, getD};
+ghost use lib.ListN.{length};
 ghost use Rattle.lists.specs.Tabulate.{tabulate};
 ghost use Rattle.lists.specs.Written.{written};
-ghost use Rattle.codec_select.specs.Pairing.{Columns, Reached, notPrimary, remains, namesakes, namesakesFrom, isPair, fateOf, opensPair, laterOf, sideR1, sideR2};
+ghost use Rattle.codec_select.specs.Pairing.{Columns, notPrimary, remains, namesakesFrom, isPair, fateOf, opensPair, laterOf, sideR1, sideR2};
+ghost use Rattle.codec_select.specs.Search.{Reached};
 
 fn is_not_primary(flags: u16) -> bool
     ensures { λ r. ⌜ r ≡ notPrimary flags ⌝ }
@@ -23,6 +24,7 @@ fn is_not_primary(flags: u16) -> bool
     is_supplementary(flags)
 }
 
+// Step 2 is of the records that this holds of.
 fn is_remaining(flags: u16) -> bool
     ensures { λ r. ⌜ r ≡ remains flags ⌝ }
 {
