@@ -1,4 +1,4 @@
--- Laws of the columns: their lengths, and what the test of lengths shows.
+-- What the test of the columns' lengths shows.
 use mathlib.Core.Bool.{true, and-eq-true-iff}
 use mathlib.Core.List.{List, _∷_, _++_}
 use mathlib.Core.Path.{_≡_, sym}
@@ -8,13 +8,7 @@ use lib.Dec.{eqb, leb, lit<}
 use lib.ListN.{length, getD}
 use Rattle.lists.specs.Every.{every}
 use Rattle.lists.proofs.Every.{every-at}
-use Rattle.lists.proofs.Tabulate.{length-tabulate}
-use Rattle.codec_duplex.specs.Columns.{Strand, lengths, fieldAt, column, columnsFit, Fitting}
-use Rattle.codec_duplex.specs.declared.position.Position.{Position}
-
-pub length-column : (field : Position → ℕ) (a b : Strand) → length (column field a b) ≡ length (a .bases)
-unfolding column
-length-column field a b = length-tabulate (fieldAt field a b) (length (a .bases))
+use Rattle.codec_duplex.specs.Columns.{Strand, lengths, columnsFit, Fitting}
 
 -- the seven lengths that are compared with the first
 abbrev others : Strand → Strand → List ℕ
