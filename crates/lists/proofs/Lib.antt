@@ -6,4 +6,5 @@ pub mod Sets
 pub mod Table
 pub mod Tabulate
 pub mod Total
+pub mod Turning
 pub mod Written
