@@ -1,22 +1,17 @@
 -- Laws of turned and padded columns, place by place, over the element type.
 use mathlib.Core.Bool.{Bool, true, false, cond}
-use mathlib.Core.List.{List, [], _∷_, _++_, map, map-append, reverse}
+use mathlib.Core.List.{List, _++_, map, map-append, reverse}
 use mathlib.Core.Path.{_≡_, refl, sym, _∙_, ap}
-use Prim.Native.Nat.{ℕ, zero, suc, _+_, _-_, _≤_, _<_}
+use Prim.Native.Nat.{ℕ, _+_, _-_, _≤_, _<_}
 use native.Mathlib.Decide.{decLt}
 use native.Mathlib.Omega.{arith}
-use lib.ListN.{length, getD, replicate, length-append, length-map, length-reverse, length-replicate, getD-replicate, List·getD-append, List·getD-eq-default, List·getD-map}
+use lib.ListN.{length, getD, replicate, length-append, length-map, length-reverse, length-replicate, List·getD-append, List·getD-eq-default, List·getD-map}
 use lib.Seq.{getD-append-add}
+use Rattle.lists.proofs.Places.{getD-repeated, map-replicate}
 use Rattle.lists.proofs.Reverse.{getD-reverse, map-reverse}
 use Rattle.codec_duplex.specs.Strands.{complement, turned, turnedBases, padded}
 
 module _ {A : Type 0} where
-  -- inside a list its default does not matter
-  pub getD-within : (xs : List A) (k : ℕ) (d e : A) → k < length xs → getD xs k d ≡ getD xs k e
-  getD-within [] k d e h = absurd (omega arith)
-  getD-within (x ∷ xs) zero d e h = refl
-  getD-within (x ∷ xs) (suc k) d e h = getD-within xs k d e (omega arith)
-
   length-turned : (reversed : Bool) (xs : List A) → length (turned reversed xs) ≡ length xs
   length-turned true xs = length-reverse xs
   length-turned false xs = refl
@@ -25,19 +20,15 @@ module _ {A : Type 0} where
   length-padded true pad n xs h = simp (length-append, length-replicate) (omega arith)
   length-padded false pad n xs h = simp (length-append, length-replicate) (omega arith)
 
+  -- padding on the left
   padded-before : (left : Bool) (pad : A) (n : ℕ) (xs : List A) (i : ℕ) → i < cond left (n - length xs) 0
       → getD (padded left pad n xs) i pad ≡ pad
   padded-before true pad n xs i h =
       List·getD-append (replicate (n - length xs) pad) xs pad i (rw (length-replicate (n - length xs) pad) h)
-      ∙ getD-replicate (n - length xs) i pad pad h
+      ∙ getD-repeated (n - length xs) i pad
   padded-before false pad n xs i h = absurd (omega arith)
 
-  replicate-at : (m i : ℕ) (pad : A) → getD (replicate m pad) i pad ≡ pad
-  replicate-at zero i pad = refl
-  replicate-at (suc m) zero pad = refl
-  replicate-at (suc m) (suc i) pad = replicate-at m i pad
-
-  -- from there on the column, and padding beyond it
+  -- then the column, and padding on the right
   padded-from : (left : Bool) (pad : A) (n : ℕ) (xs : List A) (i : ℕ) → cond left (n - length xs) 0 ≤ i
       → getD (padded left pad n xs) i pad ≡ getD xs (i - cond left (n - length xs) 0) pad
   padded-from true pad n xs i h =
@@ -53,7 +44,7 @@ module _ {A : Type 0} where
           let place : i ≡ length xs + (i - length xs) = omega arith in
           ap (λ k. getD (xs ++ replicate (n - length xs) pad) k pad) place
           ∙ getD-append-add xs (replicate (n - length xs) pad) (i - length xs) pad
-          ∙ replicate-at (n - length xs) (i - length xs) pad
+          ∙ getD-repeated (n - length xs) (i - length xs) pad
           ∙ sym (List·getD-eq-default xs pad past)
 
   -- the place i of the padded column, where before places of padding stand on the left
@@ -83,10 +74,6 @@ module _ {A : Type 0} where
 
   pub length-turned-padded : (reversed left : Bool) (pad : A) (n : ℕ) (xs : List A) → length xs ≤ n → length (padded left pad n (turned reversed xs)) ≡ n
   length-turned-padded reversed left pad n xs h = length-padded left pad n (turned reversed xs) (rw (length-turned reversed xs) h)
-
-map-replicate : {A B : Type 0} (f : A → B) (m : ℕ) (x : A) → map f (replicate m x) ≡ replicate m (f x)
-map-replicate f zero x = refl
-map-replicate f (suc m) x = ap (λ xs. f x ∷ xs) (map-replicate f m x)
 
 padded-map : {A : Type 0} (f : A → A) (left : Bool) (pad : A) (n : ℕ) (xs : List A) → f pad ≡ pad
     → padded left pad n (map f xs) ≡ map f (padded left pad n xs)

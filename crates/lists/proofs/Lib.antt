@@ -1,6 +1,7 @@
 pub mod Cases
 pub mod Count
 pub mod Every
+pub mod Places
 pub mod Reverse
 pub mod Sets
 pub mod Table

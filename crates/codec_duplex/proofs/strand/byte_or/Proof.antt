@@ -2,7 +2,7 @@
 use mathlib.Core.Path.{sym}
 use borrow.Author.Needs.{needs}
 use lib.ListN.{List·getD-eq-default}
-use Rattle.codec_duplex.proofs.Orientation.{getD-within}
+use Rattle.lists.proofs.Places.{getD-within}
 use Rattle.codec_duplex.proofs.strand.byte_or.Statement.{statement}
 use Rattle.codec_duplex.proofs.strand.byte_or.Tie as tie
 
