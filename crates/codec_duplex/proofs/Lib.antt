@@ -1,1 +1,4 @@
+pub mod Complement
 pub mod Laws
+pub mod Orientation
+pub mod StrandLaws

@@ -3,9 +3,11 @@ pub mod Count
 pub mod Every
 pub mod Map
 pub mod Numbers
+pub mod Places
 pub mod Reverse
 pub mod Sets
 pub mod Table
 pub mod Tabulate
 pub mod Total
+pub mod Turning
 pub mod Written

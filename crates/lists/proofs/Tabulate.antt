@@ -11,7 +11,7 @@ use lib.ListN.{length, getD, set, length-append, length-set, List·getD-append}
 use lib.Seq.{getD-at, getD-set-same, getD-set-other, ext-getD}
 use Rattle.lists.specs.Tabulate.{tabulate}
 use Rattle.lists.specs.Written.{written}
-use Rattle.lists.proofs.Written.{written-more}
+use Rattle.lists.proofs.Written.{written-more, getD-written-beyond}
 
 module _ {A : Type 0} (f : ℕ → A) where
   pub length-tabulate : (n : ℕ) → length (tabulate f n) ≡ n
@@ -31,6 +31,10 @@ module _ {A : Type 0} (f : ℕ → A) where
       → set col n v ≡ written (tabulate f (n + 1)) old
   tabulate-put old n h e g = rw (e, g) (tabulate-more old n h)
 
+  -- the next place of such a column is as it was
+  pub tabulate-next : (old : List A) {col : List A} (n : ℕ) (d : A) → col ≡ written (tabulate f n) old → getD col n d ≡ getD old n d
+  tabulate-next old n d e = rw e (getD-written-beyond (tabulate f n) old n d (omega (arith, length-tabulate n)))
+
   pub getD-tabulate : (n i : ℕ) (d : A) → i < n → getD (tabulate f n) i d ≡ f i
   unfolding tabulate
   getD-tabulate zero i d h = absurd (not-suc-le-zero h)
@@ -38,6 +42,18 @@ module _ {A : Type 0} (f : ℕ → A) where
       ⊎-elim (λ e. rw e (getD-at (tabulate f n) (f n) [] d n (length-tabulate n)))
       (λ l. List·getD-append (tabulate f n) (f n ∷ []) d i (rw (length-tabulate n) l) ∙ getD-tabulate n i d l)
       (eq-or-lt-of-le (le-of-suc-le-suc h))
+
+-- the places of a list, one by one
+pub tabulate-getD : {A : Type 0} (xs : List A) (d : A) → tabulate (λ i. getD xs i d) (length xs) ≡ xs
+tabulate-getD xs d =
+    let same = length-tabulate (λ i. getD xs i d) (length xs) in
+    ext-getD d (tabulate (λ i. getD xs i d) (length xs)) xs same (λ i h. getD-tabulate (λ k. getD xs k d) (length xs) i d (rw same at h))
+
+-- a column that is written place by place, when every place is
+pub tabulate-all : {A : Type 0} (xs old : List A) (d : A) {col : List A} {i : ℕ} → i ≡ length xs
+    → col ≡ written (tabulate (λ k. getD xs k d) i) old
+    → col ≡ written xs old
+tabulate-all xs old d end e = rw (e, end, tabulate-getD xs d)
 
 -- a rule that differs from another at one place
 pub set-tabulate : {A : Type 0} (f g : ℕ → A) (n i : ℕ) (a : A) → i < n → g i ≡ a → ((k : ℕ) → (k ≡ i → ⊥) → g k ≡ f k) → set (tabulate f n) i a ≡ tabulate g n
