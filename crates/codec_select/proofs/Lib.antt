@@ -1,6 +1,8 @@
-pub mod Admission
+pub mod Entered
 pub mod Lengths
 pub mod Namesakes
 pub mod Parts
+pub mod Refusing
 pub mod Sides
+pub mod Sound
 pub mod Windows

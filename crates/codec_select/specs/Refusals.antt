@@ -13,7 +13,7 @@ use Rattle.codec_select.specs.declared.refusal.Cause.{Cause}
 use Rattle.codec_select.specs.declared.refusal.Cause.the-variants.{Part, Words, Bases, Place}
 use Rattle.codec_select.specs.declared.refusal.Read.{Read}
 use Rattle.codec_select.specs.declared.refusal.Refusal.{Refusal}
-use Rattle.codec_select.specs.declared.refusal.Refusal.the-variants.{Admitted, Refused}
+use Rattle.codec_select.specs.declared.refusal.Refusal.the-variants.{NoRefusal, Refused}
 
 -- 'each record's operations are a part of that slice starting anywhere'
 abbrev pub opsOf : List ℕ → Read → List ℕ
@@ -77,7 +77,7 @@ gives cause f i = getD (f .entered) i false && hasCause cause (f .ops) (readOf f
 
 -- the first of the records, which stand in order
 abbrev pub lowest : ℕ → List ℕ → Refusal
-lowest number [] = Admitted
+lowest number [] = NoRefusal
 lowest number (i ∷ later) = Refused number i
 
 -- 'then lowest record'
@@ -86,7 +86,7 @@ refusedBy cause f = lowest (numberOf cause) (numbersFrom (gives cause f) 0 (leng
 
 -- the next cause counts where this one refuses nothing
 abbrev pub orElse : Refusal → Refusal → Refusal
-orElse Admitted next = next
+orElse NoRefusal next = next
 orElse (Refused number i) next = Refused number i
 
 -- 'Lowest number first', over all records

@@ -24,7 +24,7 @@ pub enum Cause {
 
 // The refusal's number, and the record or 0 that goes with it.
 pub enum Refusal {
-    Admitted,
+    NoRefusal,
     Refused(u32, usize),
 }
 
@@ -152,7 +152,7 @@ fn refused_by(
         }
         i += 1;
     }
-    Refusal::Admitted
+    Refusal::NoRefusal
 }
 
 // All records are asked for one cause before any is asked for the next.
@@ -169,15 +169,15 @@ fn refusal_of_records(
     ensures { λ r. ⌜ r ≡ refusalOfRecords (reads (now (fates .entry)) (now (clipped .entry)) (now (positions .entry)) (now (starts .entry)) (now (counts .entry)) (now (ops .entry))) ⌝ }
 {
     let by_part = refused_by(Cause::Part, fates, clipped, positions, starts, counts, ops);
-    let Refusal::Admitted = by_part else {
+    let Refusal::NoRefusal = by_part else {
         return by_part;
     };
     let by_words = refused_by(Cause::Words, fates, clipped, positions, starts, counts, ops);
-    let Refusal::Admitted = by_words else {
+    let Refusal::NoRefusal = by_words else {
         return by_words;
     };
     let by_bases = refused_by(Cause::Bases, fates, clipped, positions, starts, counts, ops);
-    let Refusal::Admitted = by_bases else {
+    let Refusal::NoRefusal = by_bases else {
         return by_bases;
     };
     refused_by(Cause::Place, fates, clipped, positions, starts, counts, ops)

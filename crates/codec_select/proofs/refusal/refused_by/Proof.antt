@@ -6,7 +6,7 @@ use native.Mathlib.Omega.{arith}
 use borrow.Author.Needs.{needs}
 use lib.ListN.{length}
 use Rattle.codec_select.specs.Refusals.{Reads, reads, refusedBy}
-use Rattle.codec_select.proofs.Admission.{fromOn, from-first, from-given, from-passed, from-end, gives-undecided, gives-other}
+use Rattle.codec_select.proofs.Refusing.{fromOn, from-first, from-given, from-passed, from-end, gives-undecided, gives-other}
 use Rattle.codec_select.proofs.refusal.refused_by.Statement.{statement}
 use Rattle.codec_select.proofs.refusal.refused_by.Tie as tie
 

@@ -1,4 +1,4 @@
--- Which record gives a refusal, and what holds where none does.
+-- Which record gives a refusal.
 use mathlib.Core.Bool.{true, false}
 use mathlib.Core.List.{List, map}
 use mathlib.Core.Path.{_≡_}
@@ -11,7 +11,7 @@ use Rattle.lists.proofs.Map.{getD-map-within}
 use Rattle.lists.proofs.Numbers.{numbers-yes, numbers-no, numbers-end}
 use Rattle.codec_select.specs.declared.refusal.Cause.{Cause}
 use Rattle.codec_select.specs.declared.refusal.Refusal.{Refusal}
-use Rattle.codec_select.specs.declared.refusal.Refusal.the-variants.{Admitted, Refused}
+use Rattle.codec_select.specs.declared.refusal.Refusal.the-variants.{NoRefusal, Refused}
 use Rattle.codec_select.specs.Fates.{UNDECIDED}
 use Rattle.codec_select.specs.Refusals.{Reads, numberOf, hasCause, readOf, gives, lowest, refusedBy, isUndecided}
 
@@ -32,7 +32,7 @@ module _ (cause : Cause) (f : Reads) where
   pub from-passed : (i : ℕ) → i < length (f .clipped) → gives cause f i ≡ false → fromOn i ≡ fromOn (i + 1)
   from-passed i h passed = rw (numbers-no (gives cause f) (length (f .clipped)) i h passed)
 
-  pub from-end : (i : ℕ) → length (f .clipped) ≤ i → fromOn i ≡ Admitted
+  pub from-end : (i : ℕ) → length (f .clipped) ≤ i → fromOn i ≡ NoRefusal
   from-end i h = rw (numbers-end (gives cause f) (length (f .clipped)) i h)
 
   module _ (fates : List ℕ) (e : f .entered ≡ map isUndecided fates) (i : ℕ) (h : i < length fates) where
