@@ -1,5 +1,5 @@
 -- The sides hold entered records, as many in each, and at most half of the family's.
-use mathlib.Core.Bool.{Bool, true, false, cond, not, _&&_, false≢true}
+use mathlib.Core.Bool.{Bool, true, false, cond}
 use mathlib.Core.List.{List, [], _∷_, map}
 use mathlib.Core.Logic.{_⊎_, inl, inr, ⊎-elim}
 use mathlib.Core.Path.{_≡_, refl, sym, _∙_, ap}
@@ -10,14 +10,9 @@ use lib.ListN.{length, getD, length-map}
 use Rattle.lists.proofs.Cases.{cond-cases, and-both}
 use Rattle.lists.proofs.Map.{getD-map-within}
 use Rattle.lists.proofs.Numbers.{numbers-at, numbers-has}
-use Rattle.raw_bam.specs.Flags.{PAIRED, FIRST-SEGMENT, hasFlag}
-use Rattle.codec_select.specs.Fates.{UNDECIDED}
-use Rattle.codec_select.specs.Pairing.{notPrimary, remains, fateOf, isNamesake, namesakesFrom, namesakes, isPair, isFirst, isEntered, opensPair, earlierRecords, laterOf, r1Of, r2Of, sideR1, sideR2}
+use Rattle.raw_bam.specs.Flags.{FIRST-SEGMENT, hasFlag}
+use Rattle.codec_select.specs.Pairing.{remains, isNamesake, namesakesFrom, namesakes, isPair, isFirst, isEntered, opensPair, earlierRecords, laterOf, r1Of, r2Of, sideR1, sideR2}
 use Rattle.codec_select.proofs.Sides.{pair-two, namesakes-at, opens-entered, later-namesake, earlier-half}
-
--- the rule of fates by its three tests
-abbrev fateBy : Bool → Bool → Bool → ℕ
-fateBy paired other pair = cond (not paired) 1 (cond other 11 (cond (paired && not other && pair) 0 2))
 
 one-of-two : (a b k x : ℕ) → k < 2 → getD (a ∷ b ∷ []) k 0 ≡ x → (a ≡ x) ⊎ (b ≡ x)
 one-of-two a b zero x h e = inl e
@@ -99,24 +94,3 @@ module _ (flags names : List ℕ) (verdicts : List Bool) where
       let one = one-of-two (getD records 0 0) (getD records 1 0) (own .0) x (omega (arith, own .1, ap length two)) (ap (λ (l : List ℕ). getD l (own .0) 0) (sym two) ∙ own .2) in
       let at = numbers-has (opensPair flags names verdicts) 0 (length flags) (getD records 0 0) zero-le (omega arith) (first .1) in
       (at .0, rw length-sideR1 (at .1), pair-at (at .0) (getD records 0 0) x (at .1) (at .2) (rw (first .2) one))
-
-  -- the entered records are those that steps 1 and 2 leave undecided
-  pub undecided-entered : (i : ℕ) → fateOf flags names verdicts i ≡ UNDECIDED → isEntered flags names verdicts i ≡ true
-  unfolding fateOf isEntered
-  undecided-entered i e = go (hasFlag (getD flags i 0) PAIRED) (notPrimary (getD flags i 0)) (isPair verdicts (namesakes flags names i)) e
-    where
-      go : (paired other pair : Bool) → fateBy paired other pair ≡ UNDECIDED → paired && not other && pair ≡ true
-      go true false true e = refl
-      go true false false e = absurd (omega arith)
-      go true true pair e = absurd (omega arith)
-      go false other pair e = absurd (omega arith)
-
-  pub entered-undecided : (i : ℕ) → isEntered flags names verdicts i ≡ true → fateOf flags names verdicts i ≡ UNDECIDED
-  unfolding fateOf isEntered
-  entered-undecided i e = go (hasFlag (getD flags i 0) PAIRED) (notPrimary (getD flags i 0)) (isPair verdicts (namesakes flags names i)) e
-    where
-      go : (paired other pair : Bool) → paired && not other && pair ≡ true → fateBy paired other pair ≡ UNDECIDED
-      go true false true e = refl
-      go true false false e = absurd (false≢true e)
-      go true true pair e = absurd (false≢true e)
-      go false other pair e = absurd (false≢true e)

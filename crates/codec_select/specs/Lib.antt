@@ -1,5 +1,6 @@
 pub mod Fates
 pub mod Pairing
 pub mod Records
+pub mod Refusals
 pub mod Search
 pub mod Window

@@ -3,4 +3,5 @@ pub mod columns;
 pub mod fates;
 pub mod pairing;
 pub mod records;
+pub mod refusal;
 pub mod window;
