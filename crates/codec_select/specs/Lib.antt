@@ -1,3 +1,4 @@
 pub mod Fates
 pub mod Pairing
+pub mod Side
 pub mod Window

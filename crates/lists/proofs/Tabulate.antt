@@ -39,6 +39,12 @@ module _ {A : Type 0} (f : ℕ → A) where
       (λ l. List·getD-append (tabulate f n) (f n ∷ []) d i (rw (length-tabulate n) l) ∙ getD-tabulate n i d l)
       (eq-or-lt-of-le (le-of-suc-le-suc h))
 
+-- the places of a list, read one after the other
+pub tabulate-getD : {A : Type 0} (xs : List A) (d : A) → tabulate (λ k. getD xs k d) (length xs) ≡ xs
+tabulate-getD xs d =
+    ext-getD d (tabulate (λ k. getD xs k d) (length xs)) xs (length-tabulate (λ k. getD xs k d) (length xs))
+    (λ k within. getD-tabulate (λ k. getD xs k d) (length xs) k d (rw (length-tabulate (λ k. getD xs k d) (length xs)) at within))
+
 -- a rule that differs from another at one place
 pub set-tabulate : {A : Type 0} (f g : ℕ → A) (n i : ℕ) (a : A) → i < n → g i ≡ a → ((k : ℕ) → (k ≡ i → ⊥) → g k ≡ f k) → set (tabulate f n) i a ≡ tabulate g n
 set-tabulate f g n i a h here others =

@@ -4,8 +4,8 @@ use mathlib.Core.Path.{_≡_, sym, _∙_, ap}
 use Prim.Native.Nat.{ℕ, suc, _+_, _-_, _≤_, _<_}
 use native.Mathlib.Numerals.{add-one}
 use native.Mathlib.Omega.{arith}
-use lib.ListN.{length, set, take, drop, length-append, length-drop, length-set}
-use lib.Seq.{set-append-seam, drop-cons, append-snoc, drop-append-add, drop-drop, take-at, set-append-left}
+use lib.ListN.{length, getD, set, take, drop, length-append, length-drop, length-set}
+use lib.Seq.{set-append-seam, drop-cons, append-snoc, drop-append-add, drop-drop, take-at, set-append-left, getD-append-add, getD-drop}
 use Rattle.lists.specs.Written.{written}
 
 module _ {A : Type 0} where
@@ -34,3 +34,9 @@ module _ {A : Type 0} where
   -- a place that is written is written again
   pub set-written : (xs old : List A) (i : ℕ) (a : A) → i < length xs → set (written xs old) i a ≡ written (set xs i a) old
   set-written xs old i a h = rw (set-append-left xs (drop (length xs) old) i a, length-set xs i a)
+
+  -- a place beyond what is written
+  pub getD-written-beyond : (xs old : List A) (i : ℕ) (d : A) → length xs ≤ i → getD (written xs old) i d ≡ getD old i d
+  getD-written-beyond xs old i d h =
+      let more : i ≡ length xs + (i - length xs) = omega arith in
+      rw more (getD-append-add xs (drop (length xs) old) (i - length xs) d ∙ getD-drop (length xs) old (i - length xs) d)
