@@ -21,15 +21,15 @@ pub fn gather_u32(column: &[u32], side: &[usize], out: &mut [u32])
     }
 }
 
-pub fn gather_i32(column: &[i32], side: &[usize], out: &mut [i32])
-    requires { ⌜ Below (now side) (length (now column)) ⌝ }
+pub fn gather_ranks(ranks: &[i32], side: &[usize], out: &mut [i32])
+    requires { ⌜ Below (now side) (length (now ranks)) ⌝ }
     requires { ⌜ length (now side) ≤ length (now out) ⌝ }
-    ensures { λ _. ⌜ now (out .exit) ≡ written (gathered (pos 0) (now (column .entry)) (now (side .entry))) (now (out .entry)) ⌝ }
+    ensures { λ _. ⌜ now (out .exit) ≡ written (gathered (pos 0) (now (ranks .entry)) (now (side .entry))) (now (out .entry)) ⌝ }
 {
     let mut k = 0;
     while k < side.len() {
         let record = side[k];
-        out[k] = column[record];
+        out[k] = ranks[record];
         k += 1;
     }
 }

@@ -1,5 +1,5 @@
 // Steps 4 and 5 on one side: which of its records stay, and what becomes of the others.
-use crate::gather::gather_i32;
+use crate::gather::gather_ranks;
 use crate::gather::gather_reverse;
 use crate::gather::gather_u32;
 use caller::ranking::select_lowest_ranking;
@@ -58,7 +58,7 @@ pub fn cap_infos_to_lowest_ranking(
 {
     let n = side.len();
     let mut own_ranks = [0i32; 256];
-    gather_i32(ranks, side, &mut own_ranks);
+    gather_ranks(ranks, side, &mut own_ranks);
     select_lowest_ranking(&own_ranks[..n], max_reads, stays);
 }
 

@@ -8,14 +8,14 @@ use borrow.Author.Needs.{needs}
 use Rattle.codec_select.proofs.staying.cap_infos_to_lowest_ranking.Statement.{statement}
 use Rattle.codec_select.proofs.staying.cap_infos_to_lowest_ranking.Tie as tie
 
-own-ranks : (c : tie.After-gather-i32) → let args = c .before .before .before .before .args in take (length (args .side .now)) (c .gather-i32 .last .1 .1 .0) ≡ gathered (pos 0) (args .ranks .now) (args .side .now)
-own-ranks c = let args = c .before .before .before .before .args in take-gathered (pos 0) (args .ranks .now) (args .side .now) _ (c .gather-i32 .ensures)
+own-ranks : (c : tie.After-gather-ranks) → let args = c .before .before .before .before .args in take (length (args .side .now)) (c .gather-ranks .last .1 .1 .0) ≡ gathered (pos 0) (args .ranks .now) (args .side .now)
+own-ranks c = let args = c .before .before .before .before .args in take-gathered (pos 0) (args .ranks .now) (args .side .now) _ (c .gather-ranks .ensures)
 
-slice-aggregate-gather-i32 : tie.Need-slice-aggregate-gather-i32
-slice-aggregate-gather-i32 c = search needs
+slice-aggregate-gather-ranks : tie.Need-slice-aggregate-gather-ranks
+slice-aggregate-gather-ranks c = search needs
 
-gather-i32-requires : tie.Need-gather-i32-requires
-gather-i32-requires c κs = search needs
+gather-ranks-requires : tie.Need-gather-ranks-requires
+gather-ranks-requires c κs = search needs
 
 array-share-prefix-own-ranks : tie.Need-array-share-prefix-own-ranks
 array-share-prefix-own-ranks c = search needs
@@ -41,8 +41,8 @@ pub cap-infos-to-lowest-ranking-spec : {M : Type 1} → statement M
 cap-infos-to-lowest-ranking-spec =
     tie.close
     (tie.spec
-    slice-aggregate-gather-i32
-    gather-i32-requires
+    slice-aggregate-gather-ranks
+    gather-ranks-requires
     array-share-prefix-own-ranks
     slice-aggregate-select-lowest-ranking
     select-lowest-ranking-requires

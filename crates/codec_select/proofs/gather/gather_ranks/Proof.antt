@@ -10,20 +10,20 @@ use mir.Facts.{toZ-ofZ}
 use Rattle.lists.specs.Written.{written}
 use Rattle.lists.proofs.Map.{written-map-put, length-written-map}
 use Rattle.codec_select.specs.Side.{gathered}
-use Rattle.codec_select.proofs.gather.gather_i32.Statement.{statement}
-use Rattle.codec_select.proofs.gather.gather_i32.Tie as tie
+use Rattle.codec_select.proofs.gather.gather_ranks.Statement.{statement}
+use Rattle.codec_select.proofs.gather.gather_ranks.Tie as tie
 
 abbrev Inv-loop : tie.InvT-loop
-Inv-loop column side out₀ k₀ out k = (k ≤ length side) × (out ≡ written (gathered (pos 0) column (take k side)) out₀)
+Inv-loop ranks side out₀ k₀ out k = (k ≤ length side) × (out ≡ written (gathered (pos 0) ranks (take k side)) out₀)
 
 abbrev μ-loop : tie.MeasureT-loop
-μ-loop column side out₀ k₀ out k = length side - k
+μ-loop ranks side out₀ k₀ out k = length side - k
 
 -- as long as it was lent
 as-lent : (c : tie.At-loop Inv-loop μ-loop) → length (c .loop .out) ≡ length (c .before .args .out .now)
 as-lent c =
     let start = c .before in
-    length-written-map (λ r. getD (start .args .column .now) r (pos 0)) (start .args .side .now) (start .args .out .now) (c .loop .k) (c .loop .inv .0) (omega (arith, start .pre .1)) (c .loop .inv .1)
+    length-written-map (λ r. getD (start .args .ranks .now) r (pos 0)) (start .args .side .now) (start .args .out .now) (c .loop .k) (c .loop .inv .0) (omega (arith, start .pre .1)) (c .loop .inv .1)
 
 loop-holds : tie.Need-loop-holds Inv-loop μ-loop
 loop-holds c = (omega arith, refl)
@@ -57,7 +57,7 @@ loop-again c =
     let at = c .before .before .before in
     let start = at .before in
     let side = start .args .side .now in
-    (omega arith, written-map-put (λ r. getD (start .args .column .now) r (pos 0)) side 0 (start .args .out .now) (at .loop .k) (omega arith) (omega (arith, start .pre .1)) (at .loop .inv .1) (toZ-ofZ (sfits-of (c .out .given))))
+    (omega arith, written-map-put (λ r. getD (start .args .ranks .now) r (pos 0)) side 0 (start .args .out .now) (at .loop .k) (omega arith) (omega (arith, start .pre .1)) (at .loop .inv .1) (toZ-ofZ (sfits-of (c .out .given))))
 
 same-length : tie.Need-same-length Inv-loop μ-loop
 same-length c = as-lent (c .before)
@@ -69,8 +69,8 @@ returns c =
     let all : take (at .loop .k) (start .args .side .now) ≡ start .args .side .now = take-all (at .loop .k) (start .args .side .now) (omega arith) in
     rw all at (at .loop .inv .1)
 
-pub gather-i32-spec : {M : Type 1} → statement M
-gather-i32-spec =
+pub gather-ranks-spec : {M : Type 1} → statement M
+gather-ranks-spec =
     tie.close
     (tie.spec
     Inv-loop
