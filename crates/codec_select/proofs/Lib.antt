@@ -1,5 +1,8 @@
 pub mod Entered
+pub mod Gathered
+pub mod Keeping
 pub mod Lengths
+pub mod Most
 pub mod Namesakes
 pub mod Parts
 pub mod Refusing

@@ -1,14 +1,14 @@
 -- Laws of a list whose elements are mapped.
 use mathlib.Core.List.{List, [], _∷_, _++_, map, map-append}
 use mathlib.Core.Path.{_≡_, refl, subst}
-use Prim.Native.Nat.{ℕ, zero, suc, _+_, _<_}
+use Prim.Native.Nat.{ℕ, zero, suc, _+_, _≤_, _<_}
+use native.Mathlib.Nat.{le-of-suc-le-suc, not-suc-le-zero}
 use native.Mathlib.Numerals.{add-one}
 use native.Mathlib.Omega.{arith}
-use native.Mathlib.Nat.{le-of-suc-le-suc, not-suc-le-zero}
 use lib.ListN.{length, getD, set, take, length-map}
 use lib.Seq.{take-suc, length-take-le}
 use Rattle.lists.specs.Written.{written}
-use Rattle.lists.proofs.Written.{written-more}
+use Rattle.lists.proofs.Written.{written-more, length-written}
 
 module _ {A B : Type 0} (f : A → B) where
   pub getD-map-within : (xs : List A) (k : ℕ) (d : A) (e : B) → k < length xs → getD (map f xs) k e ≡ f (getD xs k d)
@@ -23,10 +23,18 @@ module _ {A B : Type 0} (f : A → B) where
       (subst (λ (k : ℕ). set (written (map f xs) old) k (f a) ≡ written (map f xs ++ (f a ∷ [])) old) (length-map xs f)
       (written-more (map f xs) old (f a) (rw (length-map xs f) h)))
 
-  -- the column of a table's first places, one more a turn
-  pub map-put : (table : List A) (old : List B) (i : ℕ) (d : A) {col : List B} → i < length old → i < length table → col ≡ written (map f (take i table)) old → set col i (f (getD table i d)) ≡ written (map f (take (i + 1) table)) old
-  map-put table old i d {col} h t e =
-      let first : length (take i table) ≡ i = length-take-le i table (omega arith) in
-      rw (e, add-one, take-suc table i d t)
-      (subst (λ (k : ℕ). set (written (map f (take i table)) old) k (f (getD table i d)) ≡ written (map f (take i table ++ (getD table i d ∷ []))) old) first
-      (written-map-more (take i table) (getD table i d) old (rw first h)))
+  -- the same of the first i elements of a list, and of a column and a value that are known by equations
+  pub written-map-put : (xs : List A) (d : A) (old : List B) {col : List B} {v : B} (i : ℕ) → i < length xs → i < length old
+      → col ≡ written (map f (take i xs)) old
+      → v ≡ f (getD xs i d)
+      → set col i v ≡ written (map f (take (i + 1) xs)) old
+  written-map-put xs d old i h room e g =
+      let n : length (take i xs) ≡ i = length-take-le i xs (omega arith) in
+      rw (e, g, add-one, take-suc xs i d)
+      (subst (λ (k : ℕ). set (written (map f (take i xs)) old) k (f (getD xs i d)) ≡ written (map f (take i xs ++ (getD xs i d ∷ []))) old) n
+      (written-map-more (take i xs) (getD xs i d) old (rw n room)))
+
+  pub length-written-map : (xs : List A) (old : List B) {col : List B} (i : ℕ) → i ≤ length xs → i ≤ length old → col ≡ written (map f (take i xs)) old → length col ≡ length old
+  length-written-map xs old i h room e =
+      let n : length (take i xs) ≡ i = length-take-le i xs h in
+      rw e (length-written (map f (take i xs)) old (rw (length-map (take i xs) f, n) room))

@@ -1,14 +1,13 @@
 -- The first i records stand in every column; a turn writes one more.
-use mathlib.Core.Path.{_≡_, _∙_, ap}
+use mathlib.Core.Path.{_≡_, refl}
 use Prim.Native.Nat.{_≤_, _<_, _-_}
 use native.Mathlib.Omega.{arith}
 use borrow.Author.Needs.{needs}
-use lib.IntN.{ℤ}
-use lib.ListN.{length, take, set, getD, length-set}
+use lib.ListN.{length, take, getD, length-set}
 use mir.Facts.{toZ-ofZ}
 use mir.Syntax.{w32}
 use Rattle.lists.specs.Written.{written}
-use Rattle.lists.proofs.Map.{map-put}
+use Rattle.lists.proofs.Map.{written-map-put}
 use Rattle.codec_select.specs.Records.{blank, column}
 use Rattle.codec_select.specs.declared.records.Record.{Record}
 use Rattle.codec_select.proofs.columns.take_apart.Statement.{statement}
@@ -116,14 +115,14 @@ loop-again c =
       simp length-set (loop .inv .6),
       simp length-set (loop .inv .7),
       simp length-set (loop .inv .8),
-      map-put Record.flags table (args .flags .now) (loop .i) blank (omega (arith, room .flags-room)) inside (loop .inv .9),
-      map-put Record.name table (args .names .now) (loop .i) blank (omega (arith, room .names-room)) inside (loop .inv .10),
-      map-put Record.verdict table (args .verdicts .now) (loop .i) blank (omega (arith, room .verdicts-room)) inside (loop .inv .11),
-      ap (λ (z : ℤ). set (loop .ranks) (loop .i) z) back ∙ map-put Record.rank table (args .ranks .now) (loop .i) blank (omega (arith, room .ranks-room)) inside (loop .inv .12),
-      map-put Record.clipped table (args .clipped .now) (loop .i) blank (omega (arith, room .clipped-room)) inside (loop .inv .13),
-      map-put Record.position table (args .positions .now) (loop .i) blank (omega (arith, room .positions-room)) inside (loop .inv .14),
-      map-put Record.start table (args .starts .now) (loop .i) blank (omega (arith, room .starts-room)) inside (loop .inv .15),
-      map-put Record.count table (args .counts .now) (loop .i) blank (omega (arith, room .counts-room)) inside (loop .inv .16),
+      written-map-put Record.flags table blank (args .flags .now) (loop .i) inside (omega (arith, room .flags-room)) (loop .inv .9) refl,
+      written-map-put Record.name table blank (args .names .now) (loop .i) inside (omega (arith, room .names-room)) (loop .inv .10) refl,
+      written-map-put Record.verdict table blank (args .verdicts .now) (loop .i) inside (omega (arith, room .verdicts-room)) (loop .inv .11) refl,
+      written-map-put Record.rank table blank (args .ranks .now) (loop .i) inside (omega (arith, room .ranks-room)) (loop .inv .12) back,
+      written-map-put Record.clipped table blank (args .clipped .now) (loop .i) inside (omega (arith, room .clipped-room)) (loop .inv .13) refl,
+      written-map-put Record.position table blank (args .positions .now) (loop .i) inside (omega (arith, room .positions-room)) (loop .inv .14) refl,
+      written-map-put Record.start table blank (args .starts .now) (loop .i) inside (omega (arith, room .starts-room)) (loop .inv .15) refl,
+      written-map-put Record.count table blank (args .counts .now) (loop .i) inside (omega (arith, room .counts-room)) (loop .inv .16) refl,
     )
 
 same-length : tie.Need-same-length Inv-loop μ-loop

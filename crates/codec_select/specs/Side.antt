@@ -1,0 +1,84 @@
+-- One side of a family, a list of record numbers, in document 01's steps 4 to 6, 'A family'.
+use mathlib.Core.Bool.{Bool, cond, not}
+use mathlib.Core.List.{List, [], _∷_, map}
+use Prim.Native.Nat.{ℕ, suc, _+_, _≤_, _<_, max}
+use lib.Dec.{eqb}
+use lib.IntN.{ℤ, pos}
+use lib.ListN.{length, getD, take, drop}
+use Rattle.lists.specs.Tabulate.{tabulate}
+use Rattle.caller.specs.Ranking.{lowestRanking}
+use Rattle.raw_bam.specs.Cigar.{referenceLength}
+use Rattle.raw_bam.specs.Flags.{REVERSE, hasFlag}
+use Rattle.vanilla_caller.specs.Group.{staying, isIn}
+use Rattle.vanilla_caller.specs.Side.{listOf}
+
+-- every record of a side is one of the first n
+abbrev pub Below : List ℕ → ℕ → Type 0
+Below side n = (k : ℕ) → k < length side → getD side k 0 < n
+
+-- record r is in the columns, and its operations, at most 64, lie in the slice
+pub record HasOperations (ops starts counts : List ℕ) (r : ℕ) : Type 0 where
+  pub has-start : r < length starts
+  pub has-count : r < length counts
+  pub part : getD starts r 0 + getD counts r 0 ≤ length ops
+  pub short : getD counts r 0 ≤ 64
+
+-- so is every record of a side
+abbrev pub HaveOperations : List ℕ → List ℕ → List ℕ → List ℕ → Type 0
+HaveOperations ops starts counts side = (k : ℕ) → k < length side → HasOperations ops starts counts (getD side k 0)
+
+-- what a column says of each record of a side
+abbrev pub gathered : {A : Type 0} → A → List A → List ℕ → List A
+gathered d column side = map (λ r. getD column r d) side
+
+-- each record's own orientation, flag 16
+abbrev pub orientations : List ℕ → List Bool
+orientations flags = map (λ own. hasFlag own REVERSE) flags
+
+-- step 4: for each record of a side whether it is in the alignment group
+unfoldable pub inGroup : List ℕ → List ℕ → List ℕ → List ℕ → List ℕ → List ℕ → List Bool
+inGroup ops clipped starts counts flags side =
+    staying (gathered 0 clipped side) (λ k. getD (map (listOf ops starts counts (orientations flags)) side) k [])
+
+-- step 5: for each record of a side whether it stays under the read cap
+unfoldable pub underCap : List ℤ → ℕ → List ℕ → List Bool
+underCap ranks cap side = lowestRanking (gathered (pos 0) ranks side) cap
+
+-- the records of a side that stay, in given order
+unfoldable pub kept : List ℕ → List Bool → List ℕ
+kept [] stays = []
+kept (r ∷ side) [] = []
+kept (r ∷ side) (stays ∷ more) = cond stays (r ∷ kept side more) (kept side more)
+
+-- those that do not
+abbrev pub dropped : List ℕ → List Bool → List ℕ
+dropped side stays = kept side (map not stays)
+
+-- the fates, where the records in a list have a new one, and each other keeps its own
+unfoldable pub marked : ℕ → List ℕ → List ℕ → List ℕ
+marked fate records fates = tabulate (λ r. cond (isIn r records) fate (getD fates r 0)) (length fates)
+
+-- the operations of record r, and the reference bases that they cover
+abbrev pub operationsOf : List ℕ → List ℕ → List ℕ → ℕ → List ℕ
+operationsOf ops starts counts r = take (getD counts r 0) (drop (getD starts r 0) ops)
+
+unfoldable pub referenceBasesOf : List ℕ → List ℕ → List ℕ → ℕ → ℕ
+referenceBasesOf ops starts counts r = referenceLength (operationsOf ops starts counts r)
+
+-- the largest number of a list
+unfoldable pub most : List ℕ → ℕ
+most [] = 0
+most (x ∷ xs) = max x (most xs)
+
+-- the first place of a number in a list
+unfoldable pub placeOf : ℕ → List ℕ → ℕ
+placeOf x [] = 0
+placeOf x (y ∷ ys) = cond (eqb y x) 0 (suc (placeOf x ys))
+
+-- the earliest of those that have most
+unfoldable pub placeOfMost : List ℕ → ℕ
+placeOfMost xs = placeOf (most xs) xs
+
+-- step 6: the place of a side's longest, which has most reference bases, the earliest at a tie
+unfoldable pub longestOf : List ℕ → List ℕ → List ℕ → List ℕ → ℕ
+longestOf ops starts counts side = placeOfMost (map (referenceBasesOf ops starts counts) side)
