@@ -19,6 +19,7 @@ pub fn longest_of(ops: &[u32], starts: &[u32], counts: &[u32], side: &[usize]) -
     requires { ⌜ HaveOperations (now ops) (now starts) (now counts) (now side) ⌝ }
     requires { ⌜ 0 < length (now side) ⌝ }
     ensures { λ r. ⌜ r ≡ longestOf (now (ops .entry)) (now (starts .entry)) (now (counts .entry)) (now (side .entry)) ⌝ }
+    ensures { λ r. ⌜ r < length (now (side .entry)) ⌝ }
 {
     let mut longest = 0;
     let mut most = reference_bases_of(ops, starts, counts, side[0]);

@@ -68,7 +68,7 @@ returns c =
     let side = start .args .side .now in
     let bases = referenceBasesOf (start .args .ops .now) (start .args .starts .now) (start .args .counts .now) in
     let end : at .loop .k ≡ length side = omega arith in
-    sym (leads-map bases side (at .loop .longest) (rw end at (at .loop .inv .2)))
+    (sym (leads-map bases side (at .loop .longest) (rw end at (at .loop .inv .2))), omega arith)
 
 pub longest-of-spec : {M : Type 1} → statement M
 longest-of-spec =
