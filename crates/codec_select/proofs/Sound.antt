@@ -1,7 +1,7 @@
 -- What holds of an entered record where nothing is refused.
-use mathlib.Core.Bool.{Bool, true, false, cond, not, _||_, false≢true}
+use mathlib.Core.Bool.{Bool, true, false, cond, not, _||_}
 use mathlib.Core.List.{List, [], _∷_}
-use mathlib.Core.Path.{_≡_, refl, sym}
+use mathlib.Core.Path.{_≡_, refl}
 use Prim.Native.Nat.{ℕ, _+_, _≤_, _<_}
 use native.Mathlib.Omega.{arith}
 use borrow.Author.Tests.{ltb-false, eqb-true, eqb-false, not-false}
@@ -9,17 +9,17 @@ use lib.Dec.{eqb, ltb}
 use lib.ListN.{length, getD, length-take}
 use Rattle.lists.specs.Every.{every}
 use Rattle.lists.specs.Numbers.{numbersFrom}
-use Rattle.lists.proofs.Cases.{fails-of-never}
+use Rattle.lists.proofs.Cases.{or-neither, fails-of-never}
 use Rattle.lists.proofs.Numbers.{numbers-has}
 use Rattle.raw_bam.specs.Cigar.{readLength, referenceLength}
 use Rattle.vanilla_caller.specs.Side.{HasRecord}
-use Rattle.codec_select.specs.declared.refusal.Cause.{Cause}
-use Rattle.codec_select.specs.declared.refusal.Cause.the-variants.{Part, Words, Bases, Place}
-use Rattle.codec_select.specs.declared.refusal.Read.{Read}
-use Rattle.codec_select.specs.declared.refusal.Refusal.{Refusal}
-use Rattle.codec_select.specs.declared.refusal.Refusal.the-variants.{NoRefusal, Refused}
-use Rattle.codec_select.specs.Refusals.{Reads, opsOf, badPart, isOperation, badWords, badBases, badPlace, hasCause, readOf, gives, lowest, refusedBy, orElse, refusalOfRecords, firstRefusal}
-use Rattle.codec_select.specs.Window.{alignment, Admitted}
+use Rattle.codec_pairing.specs.declared.refusal.Cause.{Cause}
+use Rattle.codec_pairing.specs.declared.refusal.Cause.the-variants.{Part, Words, Bases, Place}
+use Rattle.codec_pairing.specs.declared.refusal.Read.{Read}
+use Rattle.codec_pairing.specs.declared.refusal.Refusal.{Refusal}
+use Rattle.codec_pairing.specs.declared.refusal.Refusal.the-variants.{NoRefusal, Refused}
+use Rattle.codec_pairing.specs.Refusals.{Reads, opsOf, badPart, isOperation, badWords, badBases, badPlace, hasCause, readOf, gives, lowest, refusedBy, orElse, refusalOfRecords, firstRefusal}
+use Rattle.codec_window.specs.Window.{alignment, Admitted}
 
 -- what refusals 3 to 6 leave of a record
 pub record Sound (ops : List ℕ) (r : Read) : Type 0 where
@@ -32,17 +32,13 @@ pub record Sound (ops : List ℕ) (r : Read) : Type 0 where
   pub near : r .position ≤ 536870911
   pub narrow : referenceLength (opsOf ops r) ≤ 536870911
 
-neither : (a b : Bool) → a || b ≡ false → (a ≡ false) × (b ≡ false)
-neither true b e = absurd (false≢true (sym e))
-neither false b e = (refl, e)
-
 sound : (ops : List ℕ) (r : Read) → ((cause : Cause) → hasCause cause ops r ≡ false) → Sound ops r
 unfolding hasCause badPart badWords badBases badPlace
 sound ops r none =
-    let part = neither (ltb (length ops) (r .start + r .count)) (ltb 64 (r .count)) (none Part) in
-    let bases = neither (ltb 1024 (r .«clipped_length»)) (not (eqb (r .«clipped_length») (readLength (opsOf ops r)))) (none Bases) in
-    let place = neither (eqb (r .position) 0 || ltb 536870911 (r .position)) (ltb 536870911 (referenceLength (opsOf ops r))) (none Place) in
-    let position = neither (eqb (r .position) 0) (ltb 536870911 (r .position)) (place .0) in
+    let part = or-neither (ltb (length ops) (r .start + r .count)) (ltb 64 (r .count)) (none Part) in
+    let bases = or-neither (ltb 1024 (r .«clipped_length»)) (not (eqb (r .«clipped_length») (readLength (opsOf ops r)))) (none Bases) in
+    let place = or-neither (eqb (r .position) 0 || ltb 536870911 (r .position)) (ltb 536870911 (referenceLength (opsOf ops r))) (none Place) in
+    let position = or-neither (eqb (r .position) 0) (ltb 536870911 (r .position)) (place .0) in
     let some : r .position ≡ 0 → ⊥ = eqb-false (r .position) 0 (position .0) in
     record {
       inside = ltb-false _ _ (part .0);
@@ -74,7 +70,7 @@ module _ (minimum records : ℕ) (f : Reads) (none : firstRefusal minimum record
   within-limits =
       let one = passed (ltb 2147483647 minimum) 1 0 _ none in
       let two = passed (ltb 512 records || ltb 8192 (length (f .ops))) 2 0 (refusalOfRecords f) (one .1) in
-      let sizes = neither (ltb 512 records) (ltb 8192 (length (f .ops))) (two .0) in
+      let sizes = or-neither (ltb 512 records) (ltb 8192 (length (f .ops))) (two .0) in
       (ltb-false _ _ (one .0), ltb-false _ _ (sizes .0), ltb-false _ _ (sizes .1), two .1)
 
   by-each : (refusedBy Part f ≡ NoRefusal) × (refusedBy Words f ≡ NoRefusal) × (refusedBy Bases f ≡ NoRefusal) × (refusedBy Place f ≡ NoRefusal)

@@ -1,7 +1,6 @@
-pub mod Fates
-pub mod Pairing
+pub mod Alignments
+pub mod Marks
 pub mod Records
-pub mod Refusals
-pub mod Search
+pub mod Selection
 pub mod Side
-pub mod Window
+pub mod Steps

@@ -54,9 +54,9 @@ kept (r ∷ side) (stays ∷ more) = cond stays (r ∷ kept side more) (kept sid
 abbrev pub dropped : List ℕ → List Bool → List ℕ
 dropped side stays = kept side (map not stays)
 
--- the fates, where the records in a list have a new one, and each other keeps its own
-unfoldable pub marked : ℕ → List ℕ → List ℕ → List ℕ
-marked fate records fates = tabulate (λ r. cond (isIn r records) fate (getD fates r 0)) (length fates)
+-- a column, where the records in a list have a new value, and each other keeps its own
+unfoldable pub marked : {A : Type 0} → A → List ℕ → List A → List A
+marked value records column = tabulate (λ r. cond (isIn r records) value (getD column r value)) (length column)
 
 -- the operations of record r, and the reference bases that they cover
 abbrev pub operationsOf : List ℕ → List ℕ → List ℕ → ℕ → List ℕ

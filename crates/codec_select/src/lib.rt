@@ -1,10 +1,13 @@
-// Steps 1 to 7 of a family: which of its records stay, and the window, phase and length of the two sides.
+// Steps 1 to 7 of a family, joined: which of its records stay, and the window and the length of its duplex.
+pub mod alone;
 pub mod columns;
-pub mod fates;
+pub mod dropping;
 pub mod gather;
 pub mod longest;
-pub mod pairing;
+pub mod marks;
+pub mod options;
+pub mod overlapping;
 pub mod records;
-pub mod refusal;
+pub mod selection;
 pub mod staying;
-pub mod window;
+pub mod steps;

@@ -3,15 +3,28 @@ use raw_bam::cigar::reference_length_from_cigar;
 ghost use mathlib.Core.Path.{_≡_};
 ghost use Prim.Native.Nat.{_<_};
 ghost use lib.ListN.{length};
-ghost use Rattle.codec_select.specs.Side.{HasOperations, HaveOperations, referenceBasesOf, longestOf};
+ghost use Rattle.codec_select.specs.Side.{HasOperations, HaveOperations, operationsOf, referenceBasesOf, longestOf};
+
+// The part of the words that is a record's.
+pub(crate) fn operations_of<'a>(
+    ops: &'a [u32],
+    starts: &[u32],
+    counts: &[u32],
+    record: usize,
+) -> &'a [u32]
+    requires { ⌜ HasOperations (now ops) (now starts) (now counts) «record» ⌝ }
+    ensures { λ r. ⌜ now r ≡ operationsOf (now (ops .entry)) (now (starts .entry)) (now (counts .entry)) «record» ⌝ }
+{
+    let start = starts[record] as usize;
+    let end = start + counts[record] as usize;
+    &ops[start..end]
+}
 
 fn reference_bases_of(ops: &[u32], starts: &[u32], counts: &[u32], record: usize) -> u64
     requires { ⌜ HasOperations (now ops) (now starts) (now counts) «record» ⌝ }
     ensures { λ r. ⌜ r ≡ referenceBasesOf (now (ops .entry)) (now (starts .entry)) (now (counts .entry)) «record» ⌝ }
 {
-    let start = starts[record] as usize;
-    let end = start + counts[record] as usize;
-    reference_length_from_cigar(&ops[start..end])
+    reference_length_from_cigar(operations_of(ops, starts, counts, record))
 }
 
 // The place of the longest in the side: of records that are equally long, the earliest.

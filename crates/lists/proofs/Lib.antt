@@ -3,6 +3,7 @@ pub mod Count
 pub mod Every
 pub mod Map
 pub mod Numbers
+pub mod Parts
 pub mod Places
 pub mod Reverse
 pub mod Sets

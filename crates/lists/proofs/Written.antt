@@ -1,10 +1,10 @@
 -- Laws of a column whose first places are written.
-use mathlib.Core.List.{List, [], _∷_, _++_}
+use mathlib.Core.List.{List, [], _∷_, _++_, append-nil}
 use mathlib.Core.Path.{_≡_, sym, _∙_, ap}
 use Prim.Native.Nat.{ℕ, suc, _+_, _-_, _≤_, _<_}
 use native.Mathlib.Numerals.{add-one}
 use native.Mathlib.Omega.{arith}
-use lib.ListN.{length, getD, set, take, drop, length-append, length-drop, length-set}
+use lib.ListN.{length, getD, set, take, drop, length-append, length-drop, length-set, drop-of-length-le}
 use lib.Seq.{set-append-seam, drop-cons, append-snoc, drop-append-add, drop-drop, take-at, set-append-left, getD-append-add, getD-drop}
 use Rattle.lists.specs.Written.{written}
 
@@ -23,6 +23,10 @@ module _ {A : Type 0} where
       let more : length ys ≡ length xs + (length ys - length xs) = omega arith in
       ap {B = List A} (λ rest. ys ++ rest)
       (rw more (drop-append-add xs (drop (length xs) old) (length ys - length xs) ∙ drop-drop (length ys - length xs) (length xs) old))
+
+  -- nothing is left of a column that is written whole
+  pub written-whole : (xs old : List A) → length xs ≡ length old → written xs old ≡ xs
+  written-whole xs old e = rw (drop-of-length-le old {i = length xs} (omega arith)) (append-nil xs)
 
   pub take-written : (xs old : List A) (n : ℕ) → length xs ≡ n → take n (written xs old) ≡ xs
   take-written xs old n e = take-at xs (drop (length xs) old) n e

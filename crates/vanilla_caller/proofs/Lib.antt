@@ -2,3 +2,4 @@ pub mod Champions
 pub mod Groups
 pub mod Marks
 pub mod Orders
+pub mod Staying

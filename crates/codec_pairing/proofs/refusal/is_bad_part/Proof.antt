@@ -1,0 +1,26 @@
+-- The answer is the last test where those before it failed.
+use borrow.Author.Needs.{needs}
+use borrow.Author.Tests.{lt-ltb, le-ltb}
+use Rattle.codec_pairing.specs.Refusals.{badPart}
+use Rattle.codec_pairing.proofs.refusal.is_bad_part.Statement.{statement}
+use Rattle.codec_pairing.proofs.refusal.is_bad_part.Tie as tie
+
+cast-if1 : tie.Need-cast-if1
+cast-if1 c = search needs
+
+cast-if1-2 : tie.Need-cast-if1-2
+cast-if1-2 c = search needs
+
+add-if1 : tie.Need-add-if1
+add-if1 c = search needs
+
+returns : tie.Need-returns
+unfolding badPart
+returns c = simp (lt-ltb _ _ (c .if1 .taken))
+
+returns-2 : tie.Need-returns-2
+unfolding badPart
+returns-2 c = simp (le-ltb _ _ (c .before .if1 .left))
+
+pub is-bad-part-spec : {M : Type 1} → statement M
+is-bad-part-spec = tie.close (tie.spec cast-if1 cast-if1-2 add-if1 returns returns-2)

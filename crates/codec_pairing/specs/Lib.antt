@@ -1,0 +1,4 @@
+pub mod Fates
+pub mod Pairing
+pub mod Refusals
+pub mod Search

@@ -1,0 +1,122 @@
+-- Document 01, the table of refusals: 1 to 6, which are asked of a family before any step.
+use mathlib.Core.Bool.{Bool, false, cond, not, _&&_, _||_}
+use mathlib.Core.List.{List, [], _∷_, map}
+use mathlib.Core.Path.{_≡_}
+use Prim.Native.Nat.{ℕ, _+_}
+use lib.Dec.{eqb, leb, ltb}
+use lib.ListN.{length, getD, take, drop}
+use Rattle.lists.specs.Every.{every}
+use Rattle.lists.specs.Numbers.{numbersFrom}
+use Rattle.raw_bam.specs.Cigar.{opLength, opCode, readLength, referenceLength}
+use Rattle.codec_pairing.specs.Fates.{UNDECIDED}
+use Rattle.codec_pairing.specs.declared.refusal.Cause.{Cause}
+use Rattle.codec_pairing.specs.declared.refusal.Cause.the-variants.{Part, Words, Bases, Place}
+use Rattle.codec_pairing.specs.declared.refusal.Read.{Read}
+use Rattle.codec_pairing.specs.declared.refusal.Refusal.{Refusal}
+use Rattle.codec_pairing.specs.declared.refusal.Refusal.the-variants.{NoRefusal, Refused}
+
+-- 'each record's operations are a part of that slice starting anywhere'
+abbrev pub opsOf : List ℕ → Read → List ℕ
+opsOf ops r = take (r .count) (drop (r .start) ops)
+
+-- 3: 'operations outside the slice, or over 64'
+unfoldable pub badPart : ℕ → Read → Bool
+badPart words r = ltb words (r .start + r .count) || ltb 64 (r .count)
+
+-- a code of 0 to 8, and a length that is not 0
+abbrev pub isOperation : ℕ → Bool
+isOperation word = leb (opCode word) 8 && ltb 0 (opLength word)
+
+-- 4: 'code above 8 or length 0'
+unfoldable pub badWords : List ℕ → Bool
+badWords part = not (every isOperation part)
+
+-- 5: 'clipped length above 1,024, or not its operations' read bases'
+unfoldable pub badBases : ℕ → List ℕ → Bool
+badBases clipped part = ltb 1024 clipped || not (eqb clipped (readLength part))
+
+-- 6: 'position 0 or above 536,870,911, or reference bases above that'
+unfoldable pub badPlace : ℕ → List ℕ → Bool
+badPlace position part = eqb position 0 || ltb 536870911 position || ltb 536870911 (referenceLength part)
+
+-- the table's column 'No.'
+abbrev pub numberOf : Cause → ℕ
+numberOf Part = 3
+numberOf Words = 4
+numberOf Bases = 5
+numberOf Place = 6
+
+-- the table's column 'Cause'
+unfoldable pub hasCause : Cause → List ℕ → Read → Bool
+hasCause Part ops r = badPart (length ops) r
+hasCause Words ops r = badWords (opsOf ops r)
+hasCause Bases ops r = badBases (r .«clipped_length») (opsOf ops r)
+hasCause Place ops r = badPlace (r .position) (opsOf ops r)
+
+-- a family's records as columns, with all operation words and which records are *entered*
+pub record Reads : Type 0 where
+  pub clipped : List ℕ
+  pub positions : List ℕ
+  pub starts : List ℕ
+  pub counts : List ℕ
+  pub ops : List ℕ
+  pub entered : List Bool
+
+abbrev pub readOf : Reads → ℕ → Read
+readOf f i =
+    record {
+      «clipped_length» = getD (f .clipped) i 0;
+      position = getD (f .positions) i 0;
+      start = getD (f .starts) i 0;
+      count = getD (f .counts) i 0;
+    }
+
+-- only an entered record gives a refusal
+unfoldable pub gives : Cause → Reads → ℕ → Bool
+gives cause f i = getD (f .entered) i false && hasCause cause (f .ops) (readOf f i)
+
+-- the first of the records, which stand in order
+abbrev pub lowest : ℕ → List ℕ → Refusal
+lowest number [] = NoRefusal
+lowest number (i ∷ later) = Refused number i
+
+-- 'then lowest record'
+unfoldable pub refusedBy : Cause → Reads → Refusal
+refusedBy cause f = lowest (numberOf cause) (numbersFrom (gives cause f) 0 (length (f .clipped)))
+
+-- the next cause counts where this one refuses nothing
+abbrev pub orElse : Refusal → Refusal → Refusal
+orElse NoRefusal next = next
+orElse (Refused number i) next = Refused number i
+
+-- 'Lowest number first', over all records
+unfoldable pub refusalOfRecords : Reads → Refusal
+refusalOfRecords f = orElse (refusedBy Part f) (orElse (refusedBy Words f) (orElse (refusedBy Bases f) (refusedBy Place f)))
+
+-- 1: 'minimum duplex length above 2,147,483,647', with 0; 2: 'over 512 records or 8,192 operation words', with 0; then 3 to 6
+unfoldable pub firstRefusal : ℕ → ℕ → Reads → Refusal
+firstRefusal minimum records f =
+    cond (ltb 2147483647 minimum) (Refused 1 0)
+    (cond (ltb 512 records || ltb 8192 (length (f .ops))) (Refused 2 0) (refusalOfRecords f))
+
+-- after steps 1 and 2 a record that has no fate is entered
+abbrev pub isUndecided : ℕ → Bool
+isUndecided fate = eqb fate UNDECIDED
+
+abbrev pub reads : List ℕ → List ℕ → List ℕ → List ℕ → List ℕ → List ℕ → Reads
+reads fates clipped positions starts counts ops =
+    record {
+      clipped = clipped;
+      positions = positions;
+      starts = starts;
+      counts = counts;
+      ops = ops;
+      entered = map isUndecided fates;
+    }
+
+-- the columns are equally long
+pub record Alike (fates clipped positions starts counts : List ℕ) : Type 0 where
+  pub as-many-fates : length fates ≡ length clipped
+  pub as-many-positions : length positions ≡ length clipped
+  pub as-many-starts : length starts ≡ length clipped
+  pub as-many-counts : length counts ≡ length clipped

@@ -1,0 +1,4 @@
+// Which records of a family pair up by name, and what is refused of those that do.
+pub mod fates;
+pub mod pairing;
+pub mod refusal;

@@ -1,0 +1,257 @@
+// Steps 1 to 7 of a family whose records are columns.
+use crate::dropping::keep_group;
+use crate::dropping::keep_lowest_ranking;
+use crate::marks::mark_words;
+use crate::options::Options;
+use crate::overlapping::overlap_of_sides;
+use crate::selection::Decision;
+use crate::selection::Selection;
+use caller::reason::RejectionReason;
+use codec_pairing::pairing::write_fates;
+use codec_pairing::pairing::write_sides;
+use codec_pairing::refusal::Refusal;
+use codec_pairing::refusal::first_refusal;
+ghost use mathlib.Core.Bool.{_||_};
+ghost use mathlib.Core.List.{[]};
+ghost use mathlib.Core.Path.{_≡_};
+ghost use Prim.Native.Nat.{_≤_, _<_, _^_};
+ghost use lib.Dec.{ltb};
+ghost use lib.ListN.{length, take, replicate};
+ghost use Rattle.codec_select.specs.Alignments.{alignments, Formed, Sided, EnteredAdmissible};
+ghost use Rattle.codec_pairing.specs.Pairing.{Columns, sideR1, sideR2};
+ghost use Rattle.codec_pairing.specs.Refusals.{Alike};
+ghost use Rattle.codec_select.specs.Selection.{answerOf};
+ghost use Rattle.codec_select.specs.Side.{Below};
+ghost use Rattle.codec_select.specs.Steps.{capIsZero, isKept, concluded, fromWindow, fromCap, fromSides, selected};
+
+// A family that ends without a duplex keeps no record.
+fn end(decision: Decision) -> Selection
+    ensures { λ r. ⌜ r ≡ record { decision = decision; r1 = replicate 8 0; r2 = replicate 8 0 } ⌝ }
+{
+    Selection {
+        decision,
+        r1: [0u64; 8],
+        r2: [0u64; 8],
+    }
+}
+
+fn is_kept(decision: Decision) -> bool
+    ensures { λ r. ⌜ r ≡ isKept decision ⌝ }
+{
+    match decision {
+        Decision::Kept {
+            start: _,
+            end: _,
+            length: _,
+            r1_is_negative: _,
+            r2_is_negative: _,
+        } => true,
+        Decision::Empty => false,
+        Decision::Rejected(_) => false,
+        Decision::Refused(_, _) => false,
+    }
+}
+
+// The marks of the sides' records where the family is kept.
+fn conclude(decision: Decision, r1: &[usize], r2: &[usize], n: usize) -> Selection
+    requires { ⌜ Below (now r1) n ⌝ }
+    requires { ⌜ Below (now r2) n ⌝ }
+    requires { ⌜ n ≤ 512 ⌝ }
+    ensures { λ r. ⌜ r ≡ answerOf n (concluded decision (now (r1 .entry)) (now (r2 .entry)) []) ⌝ }
+{
+    if is_kept(decision) {
+        return Selection {
+            decision,
+            r1: mark_words(r1, n),
+            r2: mark_words(r2, n),
+        };
+    }
+    end(decision)
+}
+
+// A side below the minimum, or a cap of 0.
+fn has_too_few_reads(options: Options, r1: usize, r2: usize) -> bool
+    ensures { λ r. ⌜ r ≡ ltb r1 (options .«min_reads_per_strand») || ltb r2 (options .«min_reads_per_strand») || capIsZero options ⌝ }
+{
+    if (r1 as u64) < options.min_reads_per_strand {
+        return true;
+    }
+    if (r2 as u64) < options.min_reads_per_strand {
+        return true;
+    }
+    if options.has_max_reads_per_strand {
+        return options.max_reads_per_strand == 0;
+    }
+    false
+}
+
+// Steps 6 and 7.
+fn from_window(
+    flags: &[u16],
+    clipped: &[u32],
+    positions: &[u32],
+    starts: &[u32],
+    counts: &[u32],
+    ops: &[u32],
+    options: Options,
+    r1: &[usize],
+    r2: &[usize],
+) -> Selection
+    requires { ⌜ Formed (alignments (now flags) (now clipped) (now positions) (now starts) (now counts) (now ops)) (now r1) ⌝ }
+    requires { ⌜ Formed (alignments (now flags) (now clipped) (now positions) (now starts) (now counts) (now ops)) (now r2) ⌝ }
+    requires { ⌜ (options .«min_duplex_length» < 2 ^ 31) × (length (now flags) ≤ 512) ⌝ }
+    ensures { λ r. ⌜ r ≡ answerOf (length (now (flags .entry))) (fromWindow options (alignments (now (flags .entry)) (now (clipped .entry)) (now (positions .entry)) (now (starts .entry)) (now (counts .entry)) (now (ops .entry))) (now (r1 .entry)) (now (r2 .entry)) []) ⌝ }
+{
+    let decision = overlap_of_sides(
+        flags,
+        clipped,
+        positions,
+        starts,
+        counts,
+        ops,
+        options,
+        r1,
+        r2,
+    );
+    conclude(decision, r1, r2, flags.len())
+}
+
+// The end of step 4, and steps 5 to 7, of the sides in the first places of two columns.
+fn from_cap(
+    flags: &[u16],
+    ranks: &[i32],
+    clipped: &[u32],
+    positions: &[u32],
+    starts: &[u32],
+    counts: &[u32],
+    ops: &[u32],
+    options: Options,
+    r1: &mut [usize],
+    n1: usize,
+    r2: &mut [usize],
+    n2: usize,
+    fates: &mut [u8],
+) -> Selection
+    requires { ⌜ Sided (alignments (now flags) (now clipped) (now positions) (now starts) (now counts) (now ops)) (now ranks) (now fates) (now r1) n1 ⌝ }
+    requires { ⌜ Sided (alignments (now flags) (now clipped) (now positions) (now starts) (now counts) (now ops)) (now ranks) (now fates) (now r2) n2 ⌝ }
+    requires { ⌜ (options .«min_duplex_length» < 2 ^ 31) × (length (now flags) ≤ 512) ⌝ }
+    ensures { λ r. ⌜ r ≡ answerOf (length (now (flags .entry))) (fromCap options (now (ranks .entry)) (alignments (now (flags .entry)) (now (clipped .entry)) (now (positions .entry)) (now (starts .entry)) (now (counts .entry)) (now (ops .entry))) (take n1 (now (r1 .entry))) (take n2 (now (r2 .entry))) (now (fates .entry))) ⌝ }
+    ensures { λ _. ⌜ now (fates .exit) ≡ fromCap options (now (ranks .entry)) (alignments (now (flags .entry)) (now (clipped .entry)) (now (positions .entry)) (now (starts .entry)) (now (counts .entry)) (now (ops .entry))) (take n1 (now (r1 .entry))) (take n2 (now (r2 .entry))) (now (fates .entry)) .fates ⌝ }
+{
+    if has_too_few_reads(options, n1, n2) {
+        return end(Decision::Rejected(RejectionReason::InsufficientReads));
+    }
+    let m1 = keep_lowest_ranking(options, ranks, r1, n1, fates);
+    let m2 = keep_lowest_ranking(options, ranks, r2, n2, fates);
+    from_window(
+        flags,
+        clipped,
+        positions,
+        starts,
+        counts,
+        ops,
+        options,
+        &r1[..m1],
+        &r2[..m2],
+    )
+}
+
+// Steps 3 to 7, of the records that step 2 enters.
+fn from_sides(
+    flags: &[u16],
+    names: &[u32],
+    verdicts: &[bool],
+    ranks: &[i32],
+    clipped: &[u32],
+    positions: &[u32],
+    starts: &[u32],
+    counts: &[u32],
+    ops: &[u32],
+    options: Options,
+    fates: &mut [u8],
+) -> Selection
+    requires { ⌜ Columns (now flags) (now names) (now verdicts) ⌝ }
+    requires { ⌜ EnteredAdmissible (alignments (now flags) (now clipped) (now positions) (now starts) (now counts) (now ops)) (now names) (now verdicts) ⌝ }
+    requires { ⌜ (length (now ranks) ≡ length (now flags)) × (length (now fates) ≡ length (now flags)) ⌝ }
+    requires { ⌜ (options .«min_duplex_length» < 2 ^ 31) × (length (now flags) ≤ 512) ⌝ }
+    ensures { λ r. ⌜ r ≡ answerOf (length (now (flags .entry))) (fromSides options (now (ranks .entry)) (alignments (now (flags .entry)) (now (clipped .entry)) (now (positions .entry)) (now (starts .entry)) (now (counts .entry)) (now (ops .entry))) (sideR1 (now (flags .entry)) (now (names .entry)) (now (verdicts .entry))) (sideR2 (now (flags .entry)) (now (names .entry)) (now (verdicts .entry))) (now (fates .entry))) ⌝ }
+    ensures { λ _. ⌜ now (fates .exit) ≡ fromSides options (now (ranks .entry)) (alignments (now (flags .entry)) (now (clipped .entry)) (now (positions .entry)) (now (starts .entry)) (now (counts .entry)) (now (ops .entry))) (sideR1 (now (flags .entry)) (now (names .entry)) (now (verdicts .entry))) (sideR2 (now (flags .entry)) (now (names .entry)) (now (verdicts .entry))) (now (fates .entry)) .fates ⌝ }
+{
+    let mut r1 = [0usize; 256];
+    let mut r2 = [0usize; 256];
+    let pairs = write_sides(flags, names, verdicts, &mut r1, &mut r2);
+    if pairs == 0 {
+        return end(Decision::Empty);
+    }
+    if (pairs as u64) < options.min_reads_per_strand {
+        return end(Decision::Rejected(RejectionReason::InsufficientReads));
+    }
+    let n1 = keep_group(ops, clipped, starts, counts, flags, &mut r1, pairs, fates);
+    let n2 = keep_group(ops, clipped, starts, counts, flags, &mut r2, pairs, fates);
+    from_cap(
+        flags,
+        ranks,
+        clipped,
+        positions,
+        starts,
+        counts,
+        ops,
+        options,
+        &mut r1,
+        n1,
+        &mut r2,
+        n2,
+        fates,
+    )
+}
+
+// Steps 1 to 7. How many records there are is given beside the columns, which stay empty where there are too many.
+pub fn select_columns(
+    records: usize,
+    flags: &[u16],
+    names: &[u32],
+    verdicts: &[bool],
+    ranks: &[i32],
+    clipped: &[u32],
+    positions: &[u32],
+    starts: &[u32],
+    counts: &[u32],
+    ops: &[u32],
+    options: Options,
+    fates: &mut [u8],
+) -> Selection
+    requires { ⌜ Columns (now flags) (now names) (now verdicts) ⌝ }
+    requires { ⌜ Alike (now fates) (now clipped) (now positions) (now starts) (now counts) ⌝ }
+    requires { ⌜ (length (now ranks) ≡ length (now flags)) × (length (now fates) ≡ length (now flags)) × (length (now flags) ≤ 512) ⌝ }
+    ensures { λ r. ⌜ r ≡ answerOf (length (now (flags .entry))) (selected options records (now (names .entry)) (now (verdicts .entry)) (now (ranks .entry)) (alignments (now (flags .entry)) (now (clipped .entry)) (now (positions .entry)) (now (starts .entry)) (now (counts .entry)) (now (ops .entry)))) ⌝ }
+    ensures { λ _. ⌜ now (fates .exit) ≡ selected options records (now (names .entry)) (now (verdicts .entry)) (now (ranks .entry)) (alignments (now (flags .entry)) (now (clipped .entry)) (now (positions .entry)) (now (starts .entry)) (now (counts .entry)) (now (ops .entry))) .fates ⌝ }
+{
+    write_fates(flags, names, verdicts, fates);
+    let minimum = options.min_duplex_length;
+    let refusal = first_refusal(
+        minimum,
+        records,
+        fates,
+        clipped,
+        positions,
+        starts,
+        counts,
+        ops,
+    );
+    if let Refusal::Refused(number, given) = refusal {
+        return end(Decision::Refused(number, given));
+    }
+    from_sides(
+        flags,
+        names,
+        verdicts,
+        ranks,
+        clipped,
+        positions,
+        starts,
+        counts,
+        ops,
+        options,
+        fates,
+    )
+}

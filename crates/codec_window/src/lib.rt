@@ -1,0 +1,2 @@
+// Window, phase and length of the longest records of two sides.
+pub mod window;
