@@ -1,4 +1,4 @@
-//! The proved combining step of a CODEC duplex, called from Rust.
+//! The proved calls of a CODEC duplex caller, from Rust: the combining step, and selection alone.
 //!
 //! [`combine`] takes depths and errors as `u16`, [`combine_bytes`] as byte pairs, low byte first. Neither panics,
 //! whatever the columns hold and however long they are; what does not fit together is [`Answer::Refused`].
@@ -19,9 +19,25 @@
 //! assert_eq!(answer, Answer::Duplex { bases: 1, disagreements: 1 });
 //! assert_eq!((bases, quals, depths, errors), ([b'A'], [10], [9], [4]));
 //! ```
+//!
+//! [`select`] takes the records of a family, all operation words in one slice, and the options.
+//!
+//! ```
+//! use codec_host::{Options, Record, Selection, select};
+//!
+//! let r1 = Record { flags: 65, verdict: true, clipped: 10, position: 100, count: 1, ..Record::default() };
+//! let r2 = Record { flags: 145, position: 105, ..r1 };
+//! let Selection::Kept { start, end, length, .. } = select(&[r1, r2], &[160], &Options::default()) else {
+//!     panic!("a window of 5 bases is enough");
+//! };
+//! assert_eq!((start, end, length), (105, 109, 15));
+//! ```
 
+mod select;
 mod sys;
 pub mod text;
+
+pub use select::{MAX_RECORDS, Marks, Options, Record, Selection, select};
 
 // The exported call wants the low byte first, as `u16` lies in memory on the only machine the library is made for.
 #[cfg(not(target_endian = "little"))]

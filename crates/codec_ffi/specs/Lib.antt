@@ -1,3 +1,4 @@
 pub mod Answer
 pub mod Bytes
+pub mod Select
 pub mod Words

@@ -5,4 +5,5 @@ mod call;
 mod columns;
 mod limits;
 mod positions;
+mod selection;
 mod text_form;

@@ -1,15 +1,18 @@
-//! The time of one call at 2,048 positions, the exported call and the original in turn on the same columns.
+//! The time of one call at 2,048 positions, the exported call and the original in turn on the same columns; then that of
+//! selection alone, by itself.
 
 use beside::original_call;
 use beside::rng::Rng;
 use codec_host::text::{Columns, Pair};
-use codec_host::{Limits, MAX_POSITIONS, combine};
+use codec_host::{Limits, MAX_POSITIONS, MAX_RECORDS, Options, Record, Selection, combine, select};
 use std::hint::black_box;
 use std::time::Instant;
 
 /// Different pairs in a round: too many positions for a branch predictor to learn, few enough for the cache.
 const PAIRS: usize = 16;
 const ROUNDS: usize = 2_001;
+/// Enough for families whose calls are longer.
+const SELECTION_ROUNDS: usize = 201;
 
 fn main() {
     let mut rng = Rng::new(1);
@@ -21,6 +24,53 @@ fn main() {
     println!("{:<36}{:>10}{:>10}{:>8}", "bases", "exported", "original", "ratio");
     report("random", &random);
     report("99 in 100 agreeing", &realistic);
+    println!("median of {SELECTION_ROUNDS} rounds over {PAIRS} families, ns per call");
+    println!("{:<36}{:>10}", "selection alone, records", "exported");
+    for records in [2, 32, MAX_RECORDS] {
+        let families: Vec<Family> = (0..PAIRS).map(|_| family(&mut rng, records)).collect();
+        report_selection(&families);
+    }
+}
+
+struct Family {
+    records: Vec<Record>,
+    ops: Vec<u32>,
+}
+
+/// Pairs of 150 bases whose reads share 100, one record in eight with an insertion or a deletion.
+fn family(rng: &mut Rng, records: usize) -> Family {
+    let (m, i, d) = (|n: u32| n * 16, 16 + 1, 16 + 2);
+    let at = 1_000 + rng.below(1_000_000) as u32;
+    let mut family = Family { records: Vec::new(), ops: Vec::new() };
+    for number in 0..records {
+        let ops = match rng.below(16) {
+            0 => vec![m(70), i, m(79)],
+            1 => vec![m(70), d, m(80)],
+            _ => vec![m(150)],
+        };
+        let is_r2 = number % 2 == 1;
+        family.records.push(Record {
+            flags: if is_r2 { 145 } else { 65 },
+            name: (number / 2) as u32,
+            verdict: true,
+            rank: rng.draw() as i32,
+            clipped: 150,
+            position: if is_r2 { at + 50 } else { at },
+            start: family.ops.len() as u32,
+            count: ops.len() as u32,
+        });
+        family.ops.extend(ops);
+    }
+    family
+}
+
+fn report_selection(families: &[Family]) {
+    let options = Options::default();
+    let ask = |family: &Family| select(&family.records, &family.ops, &options);
+    assert!(families.iter().any(|family| matches!(ask(family), Selection::Kept { .. })));
+    let times =
+        (0..SELECTION_ROUNDS).map(|_| per_call(families, |family| _ = black_box(ask(family))));
+    println!("{:<36}{:>10.0}", families[0].records.len(), median(times.collect()));
 }
 
 /// Letters and qualities as sequenced; the strands agree at so many positions in a hundred.
