@@ -1,0 +1,50 @@
+-- The text form: a line is a tag and fields, separated by single spaces.
+use mathlib.Core.Bool.{Bool, true, false, cond}
+use mathlib.Core.List.{List, [], _∷_, _++_}
+use Prim.Native.Nat.{ℕ}
+use lib.Dec.{eqb}
+use lib.ListN.{replicate}
+use Rattle.lists.specs.Written.{written}
+use Rattle.table_text.specs.Fields.{Read, read, malformed, andThen, fieldsFrom, fieldsOf}
+use Rattle.family_text.specs.Value.{none, valueField}
+use Rattle.family_text.specs.declared.value.Value.{Value}
+use Rattle.family_text.specs.declared.line.Tag.{Tag}
+use Rattle.family_text.specs.declared.line.Tag.the-variants as tags
+use Rattle.family_text.specs.declared.line.Values.{Values}
+
+-- the first field is the tag's letter alone
+unfoldable pub tagField : ℕ → List (List ℕ) → Read ℕ
+tagField tag [] = malformed
+tagField tag ([] ∷ rest) = malformed
+tagField tag ((b ∷ []) ∷ rest) = cond (eqb b tag) (read b rest) malformed
+tagField tag ((b ∷ c ∷ bs) ∷ rest) = malformed
+
+-- an answer about a line, with the fields from its place on
+abbrev pub tagIn : List ℕ → ℕ → Tag → Read ℕ
+tagIn line tag (tags.Until next) = read tag (fieldsFrom line next)
+tagIn line tag tags.Other = malformed
+
+-- values in front of those that the fields after them say
+abbrev pub inFront : List Value → Read (List Value) → Read (List Value)
+inFront vs (read ws rest) = read (vs ++ ws) rest
+inFront vs malformed = malformed
+
+-- a value for each field of the layout, its kinds and its limits
+unfoldable pub valuesOf : List ℕ → List ℕ → List (List ℕ) → Read (List Value)
+valuesOf [] limits fields = read [] fields
+valuesOf (kind ∷ kinds) [] fields = malformed
+valuesOf (kind ∷ kinds) (limit ∷ limits) fields = andThen (valueField kind limit fields) λ v rest. inFront (v ∷ []) (valuesOf kinds limits rest)
+
+-- the values in the first places of a column; nothing stands after them
+abbrev pub column : Read (List Value) → Values
+column (read vs []) = record { «well_formed» = true; values = written vs (replicate 20 none) }
+column (read vs (field ∷ more)) = record { «well_formed» = false; values = replicate 20 none }
+column malformed = record { «well_formed» = false; values = replicate 20 none }
+
+-- a line that is malformed
+abbrev pub noValues : Read (List Value)
+noValues = malformed
+
+-- a line with this tag, by its layout
+unfoldable pub lineOf : ℕ → List ℕ → List ℕ → List ℕ → Values
+lineOf tag kinds limits line = column (andThen (tagField tag (fieldsOf line)) λ b rest. valuesOf kinds limits rest)

@@ -1,0 +1,13 @@
+// Family calls as text: read one at a time, and the answers of selection written.
+pub mod bases;
+pub mod family;
+pub mod header;
+pub mod ledgers;
+pub mod line;
+pub mod lines;
+pub mod numbers;
+pub mod record;
+pub mod records;
+pub mod selection_text;
+pub mod strands;
+pub mod value;
