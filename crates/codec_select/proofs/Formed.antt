@@ -46,14 +46,6 @@ module _ (a : Alignments) (side : List ℕ) where
         by true more = kept-formed a side _ formed (cap-nonempty ranks (o .«max_reads_per_strand») side (omega (arith, eqb-false (o .«max_reads_per_strand») 0 more)) (formed .some))
         by false none = formed
 
-pub capped-below : (o : Options) (ranks : List ℤ) (side : List ℕ) (n : ℕ) → Below side n → Below (capped o ranks side) n
-unfolding capped
-capped-below o ranks side n below = by (o .«has_max_reads_per_strand»)
-  where
-    by : (has : Bool) → Below (cond has (kept side (underCap ranks (o .«max_reads_per_strand») side)) side) n
-    by true = kept-each (λ r. r < n) side _ below
-    by false = below
-
 pub length-withExcess : (o : Options) (ranks : List ℤ) (side fates : List ℕ) → length (withExcess o ranks side fates) ≡ length fates
 unfolding withExcess
 length-withExcess o ranks side fates = by (o .«has_max_reads_per_strand»)

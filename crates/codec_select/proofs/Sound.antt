@@ -12,7 +12,6 @@ use Rattle.lists.specs.Numbers.{numbersFrom}
 use Rattle.lists.proofs.Cases.{or-neither, fails-of-never}
 use Rattle.lists.proofs.Numbers.{numbers-has}
 use Rattle.raw_bam.specs.Cigar.{readLength, referenceLength}
-use Rattle.vanilla_caller.specs.Side.{HasRecord}
 use Rattle.codec_pairing.specs.declared.refusal.Cause.{Cause}
 use Rattle.codec_pairing.specs.declared.refusal.Cause.the-variants.{Part, Words, Bases, Place}
 use Rattle.codec_pairing.specs.declared.refusal.Read.{Read}
@@ -109,7 +108,3 @@ sound-alignment {ops} {r} s =
       near = s .near;
       narrow = s .narrow;
     }
-
--- and one that the alignment groups take
-pub sound-record : (f : Reads) (isReverse : List Bool) (i : ℕ) → Sound (f .ops) (readOf f i) → i < length (f .starts) → i < length (f .counts) → i < length isReverse → HasRecord (f .ops) (f .starts) (f .counts) isReverse i
-sound-record f isReverse i s h k l = record { has-start = h; has-count = k; has-reverse = l; part = s .inside; short = s .few }
