@@ -9,13 +9,14 @@ use lib.ListN.{length, getD}
 use Rattle.lists.specs.Every.{every}
 use Rattle.lists.proofs.Every.{every-at}
 use Rattle.codec_duplex.specs.Columns.{Strand, lengths, columnsFit, Fitting}
+use Rattle.codec_duplex.specs.Duplex.{Duplex, duplexLengths}
 
 -- the seven lengths that are compared with the first
 abbrev others : Strand → Strand → List ℕ
 others a b = length (a .quals) ∷ length (a .depths) ∷ length (a .errors) ∷ lengths b
 
-module _ (a b result : Strand) (fit : columnsFit (lengths a ++ lengths b) (lengths result) ≡ true) where
-  bounds : (leb (length (a .bases)) 2048 ≡ true) × (every (leb (length (a .bases))) (lengths result) ≡ true)
+module _ (a b : Strand) (result : Duplex) (fit : columnsFit (lengths a ++ lengths b) (duplexLengths result) ≡ true) where
+  bounds : (leb (length (a .bases)) 2048 ≡ true) × (every (leb (length (a .bases))) (duplexLengths result) ≡ true)
   bounds = and-eq-true-iff _ _ .0 (and-eq-true-iff (every (eqb (length (a .bases))) (others a b)) _ .0 fit .1)
 
   pub at-most-2048 : length (a .bases) ≤ 2048
@@ -24,8 +25,8 @@ module _ (a b result : Strand) (fit : columnsFit (lengths a ++ lengths b) (lengt
   equal : (k : ℕ) → k < 7 → getD (others a b) k 0 ≡ length (a .bases)
   equal k h = sym (eqb-true _ _ (every-at (eqb (length (a .bases))) (others a b) 0 (and-eq-true-iff _ _ .0 fit .0) k h))
 
-  room : (k : ℕ) → k < 4 → length (a .bases) ≤ getD (lengths result) k 0
-  room k h = leb-true _ _ (every-at (leb (length (a .bases))) (lengths result) 0 (bounds .1) k h)
+  room : (k : ℕ) → k < 4 → length (a .bases) ≤ getD (duplexLengths result) k 0
+  room k h = leb-true _ _ (every-at (leb (length (a .bases))) (duplexLengths result) 0 (bounds .1) k h)
 
   pub fitting : Fitting a b result
   fitting =

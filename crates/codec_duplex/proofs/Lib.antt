@@ -1,4 +1,1 @@
-pub mod Complement
 pub mod Laws
-pub mod Orientation
-pub mod StrandLaws

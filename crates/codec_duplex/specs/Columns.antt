@@ -8,6 +8,7 @@ use lib.ListN.{length, getD}
 use Rattle.lists.specs.Every.{every}
 use Rattle.lists.specs.Tabulate.{tabulate}
 use Rattle.lists.specs.Written.{written}
+use Rattle.codec_duplex.specs.Duplex.{Duplex}
 use Rattle.codec_duplex.specs.Position.{combined}
 use Rattle.codec_duplex.specs.declared.position.Position.{Position}
 
@@ -42,7 +43,7 @@ columnsFit [] results = true
 columnsFit (n ∷ columns) results = every (eqb n) columns && (leb n 2048 && every (leb n) results)
 
 -- the same of two strands and a result, without the limit of 2,048
-pub record Fitting (a b result : Strand) : Type 0 where
+pub record Fitting (a b : Strand) (result : Duplex) : Type 0 where
   pub aQuals : length (a .quals) ≡ length (a .bases)
   pub aDepths : length (a .depths) ≡ length (a .bases)
   pub aErrors : length (a .errors) ≡ length (a .bases)
@@ -56,7 +57,7 @@ pub record Fitting (a b result : Strand) : Type 0 where
   pub errors : length (a .bases) ≤ length (result .errors)
 
 -- the duplex fills the first places of four columns
-pub record Filled (a b before after : Strand) : Type 0 where
+pub record Filled (a b : Strand) (before after : Duplex) : Type 0 where
   pub bases : after .bases ≡ written (column Position.base a b) (before .bases)
   pub quals : after .quals ≡ written (column Position.quality a b) (before .quals)
   pub depths : after .depths ≡ written (column Position.depth a b) (before .depths)

@@ -6,6 +6,7 @@ use Prim.Native.Nat.{ℕ}
 use lib.Ieee.{Float}
 use Rattle.lists.specs.Written.{written}
 use Rattle.codec_duplex.specs.Columns.{Strand, lengths, column, columnsFit}
+use Rattle.codec_duplex.specs.Duplex.{Duplex, duplexLengths}
 use Rattle.codec_duplex.specs.Limits.{Outcome, refused, outcomeOf, isDuplex, judged}
 use Rattle.codec_duplex.specs.Tally.{tallied}
 use Rattle.codec_duplex.specs.declared.limits.DuplexAnswer.{DuplexAnswer}
@@ -22,9 +23,9 @@ outcome a b results count rate =
 abbrev pub left : Outcome → (duplex old : List ℕ) → List ℕ
 left o duplex old = cond (isDuplex o) (written duplex old) old
 
-pub record Combining (a b : Strand) (count : ℕ) (rate : Float) (r : DuplexAnswer) (before after : Strand) : Type 0 where
-  pub answer : outcomeOf r ≡ outcome a b (lengths before) count rate
-  pub bases : after .bases ≡ left (outcome a b (lengths before) count rate) (column Position.base a b) (before .bases)
-  pub quals : after .quals ≡ left (outcome a b (lengths before) count rate) (column Position.quality a b) (before .quals)
-  pub depths : after .depths ≡ left (outcome a b (lengths before) count rate) (column Position.depth a b) (before .depths)
-  pub errors : after .errors ≡ left (outcome a b (lengths before) count rate) (column Position.error a b) (before .errors)
+pub record Combining (a b : Strand) (count : ℕ) (rate : Float) (r : DuplexAnswer) (before after : Duplex) : Type 0 where
+  pub answer : outcomeOf r ≡ outcome a b (duplexLengths before) count rate
+  pub bases : after .bases ≡ left (outcome a b (duplexLengths before) count rate) (column Position.base a b) (before .bases)
+  pub quals : after .quals ≡ left (outcome a b (duplexLengths before) count rate) (column Position.quality a b) (before .quals)
+  pub depths : after .depths ≡ left (outcome a b (duplexLengths before) count rate) (column Position.depth a b) (before .depths)
+  pub errors : after .errors ≡ left (outcome a b (duplexLengths before) count rate) (column Position.error a b) (before .errors)

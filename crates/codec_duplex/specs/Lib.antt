@@ -1,7 +1,6 @@
 pub mod Columns
 pub mod Combining
+pub mod Duplex
 pub mod Limits
-pub mod Masks
 pub mod Position
-pub mod Strands
 pub mod Tally

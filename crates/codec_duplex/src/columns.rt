@@ -6,6 +6,7 @@ ghost use mathlib.Core.Path.{_≡_};
 ghost use Prim.Native.Nat.{_<_};
 ghost use lib.ListN.{length};
 ghost use Rattle.codec_duplex.specs.Columns.{columnsFit, strand, positionAt, Fitting, Filled};
+ghost use Rattle.codec_duplex.specs.Duplex.{duplex};
 
 // Eight lengths, n the first, are equal and at most 2,048, and four results have room for them.
 pub fn columns_fit(
@@ -57,13 +58,13 @@ pub fn combine_columns(
     depths: &mut [u16],
     errors: &mut [u16],
 )
-    requires { ⌜ Fitting (strand (now «a_bases») (now «a_quals») (now «a_depths») (now «a_errors»)) (strand (now «b_bases») (now «b_quals») (now «b_depths») (now «b_errors»)) (strand (now bases) (now quals) (now depths) (now errors)) ⌝ }
+    requires { ⌜ Fitting (strand (now «a_bases») (now «a_quals») (now «a_depths») (now «a_errors»)) (strand (now «b_bases») (now «b_quals») (now «b_depths») (now «b_errors»)) (duplex (now bases) (now quals) (now depths) (now errors)) ⌝ }
     ensures { λ _. ⌜
         Filled
         (strand (now («a_bases» .entry)) (now («a_quals» .entry)) (now («a_depths» .entry)) (now («a_errors» .entry)))
         (strand (now («b_bases» .entry)) (now («b_quals» .entry)) (now («b_depths» .entry)) (now («b_errors» .entry)))
-        (strand (now (bases .entry)) (now (quals .entry)) (now (depths .entry)) (now (errors .entry)))
-        (strand (now (bases .exit)) (now (quals .exit)) (now (depths .exit)) (now (errors .exit)))
+        (duplex (now (bases .entry)) (now (quals .entry)) (now (depths .entry)) (now (errors .entry)))
+        (duplex (now (bases .exit)) (now (quals .exit)) (now (depths .exit)) (now (errors .exit)))
         ⌝ }
 {
     let mut i = 0;

@@ -7,6 +7,7 @@ use crate::limits::judge;
 use crate::tally::tally;
 ghost use Rattle.codec_duplex.specs.Columns.{strand};
 ghost use Rattle.codec_duplex.specs.Combining.{Combining};
+ghost use Rattle.codec_duplex.specs.Duplex.{duplex};
 
 // The tallies and limits come first, so that a rejected pair touches no column.
 pub fn build_duplex_consensus_from_padded(
@@ -30,8 +31,8 @@ pub fn build_duplex_consensus_from_padded(
         (strand (now («a_bases» .entry)) (now («a_quals» .entry)) (now («a_depths» .entry)) (now («a_errors» .entry)))
         (strand (now («b_bases» .entry)) (now («b_quals» .entry)) (now («b_depths» .entry)) (now («b_errors» .entry)))
         «max_disagreements» «max_rate» r
-        (strand (now (bases .entry)) (now (quals .entry)) (now (depths .entry)) (now (errors .entry)))
-        (strand (now (bases .exit)) (now (quals .exit)) (now (depths .exit)) (now (errors .exit)))
+        (duplex (now (bases .entry)) (now (quals .entry)) (now (depths .entry)) (now (errors .entry)))
+        (duplex (now (bases .exit)) (now (quals .exit)) (now (depths .exit)) (now (errors .exit)))
         ⌝ }
 {
     let fit = columns_fit(

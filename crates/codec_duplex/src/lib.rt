@@ -1,9 +1,6 @@
-// The combining step: one position, the tallies and limits of a pair of strands, whole columns; and the strands' geometry.
+// The combining step: one position, the tallies and limits of a pair of strands, whole columns.
 pub mod columns;
 pub mod combining;
 pub mod limits;
-pub mod mask;
 pub mod position;
-pub mod strand;
 pub mod tally;
-pub mod turn;

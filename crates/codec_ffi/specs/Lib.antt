@@ -1,4 +1,5 @@
 pub mod Answer
 pub mod Bytes
+pub mod Rates
 pub mod Select
 pub mod Words

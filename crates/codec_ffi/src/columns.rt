@@ -9,7 +9,8 @@ ghost use Prim.Native.Nat.{_+_, _*_, _<_};
 ghost use lib.ListN.{length};
 ghost use Rattle.lists.specs.Every.{every};
 ghost use Rattle.codec_duplex.specs.Columns.{strand, positionAt, Fitting};
-ghost use Rattle.codec_ffi.specs.Bytes.{read, FilledBytes};
+ghost use Rattle.codec_duplex.specs.Duplex.{duplex};
+ghost use Rattle.codec_ffi.specs.Bytes.{read, readDuplex, FilledBytes};
 ghost use Rattle.codec_ffi.specs.Words.{even};
 
 // No column of byte pairs has an odd length.
@@ -46,13 +47,13 @@ pub fn combine_bytes(
     depths: &mut [u8],
     errors: &mut [u8],
 )
-    requires { ⌜ Fitting (read (strand (now «a_bases») (now «a_quals») (now «a_depths») (now «a_errors»))) (read (strand (now «b_bases») (now «b_quals») (now «b_depths») (now «b_errors»))) (read (strand (now bases) (now quals) (now depths) (now errors))) ⌝ }
+    requires { ⌜ Fitting (read (strand (now «a_bases») (now «a_quals») (now «a_depths») (now «a_errors»))) (read (strand (now «b_bases») (now «b_quals») (now «b_depths») (now «b_errors»))) (readDuplex (duplex (now bases) (now quals) (now depths) (now errors))) ⌝ }
     ensures { λ _. ⌜
         FilledBytes
         (strand (now («a_bases» .entry)) (now («a_quals» .entry)) (now («a_depths» .entry)) (now («a_errors» .entry)))
         (strand (now («b_bases» .entry)) (now («b_quals» .entry)) (now («b_depths» .entry)) (now («b_errors» .entry)))
-        (strand (now (bases .entry)) (now (quals .entry)) (now (depths .entry)) (now (errors .entry)))
-        (strand (now (bases .exit)) (now (quals .exit)) (now (depths .exit)) (now (errors .exit)))
+        (duplex (now (bases .entry)) (now (quals .entry)) (now (depths .entry)) (now (errors .entry)))
+        (duplex (now (bases .exit)) (now (quals .exit)) (now (depths .exit)) (now (errors .exit)))
         ⌝ }
 {
     let mut i = 0;

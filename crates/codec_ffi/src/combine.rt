@@ -9,6 +9,7 @@ use codec_duplex::limits::is_duplex;
 use codec_duplex::limits::judge;
 use codec_duplex::tally::tally;
 ghost use Rattle.codec_duplex.specs.Columns.{strand};
+ghost use Rattle.codec_duplex.specs.Duplex.{duplex};
 ghost use Rattle.codec_ffi.specs.Bytes.{CombiningBytes};
 
 // Depths and errors are byte pairs, low byte first; every base byte is accepted.
@@ -34,8 +35,8 @@ pub extern "C" fn codec_ffi_combine(
         (strand (now («a_bases» .entry)) (now («a_quals» .entry)) (now («a_depths» .entry)) (now («a_errors» .entry)))
         (strand (now («b_bases» .entry)) (now («b_quals» .entry)) (now («b_depths» .entry)) (now («b_errors» .entry)))
         «max_disagreements» «max_rate» r
-        (strand (now (bases .entry)) (now (quals .entry)) (now (depths .entry)) (now (errors .entry)))
-        (strand (now (bases .exit)) (now (quals .exit)) (now (depths .exit)) (now (errors .exit)))
+        (duplex (now (bases .entry)) (now (quals .entry)) (now (depths .entry)) (now (errors .entry)))
+        (duplex (now (bases .exit)) (now (quals .exit)) (now (depths .exit)) (now (errors .exit)))
         ⌝ }
 {
     let even = even_lengths(

@@ -1,6 +1,8 @@
-// What a Rust or C host calls: the combining step through numbers and byte slices, and selection alone on a slice of records.
+// What a Rust or C host calls: the combining step through numbers and byte slices; on a slice of records, selection alone and the family call; the ledger's rates.
 pub mod answer;
 pub mod columns;
 pub mod combine;
+pub mod family;
+pub mod rates;
 pub mod select;
 pub mod words;

@@ -10,9 +10,9 @@ use Rattle.lists.specs.Numbers.{numbersFrom}
 use Rattle.lists.proofs.Map.{getD-map-within}
 use Rattle.lists.proofs.Numbers.{numbers-yes, numbers-no, numbers-end}
 use Rattle.codec_pairing.specs.declared.refusal.Cause.{Cause}
-use Rattle.codec_pairing.specs.declared.refusal.Refusal.{Refusal}
-use Rattle.codec_pairing.specs.declared.refusal.Refusal.the-variants.{NoRefusal, Refused}
-use Rattle.codec_pairing.specs.Fates.{UNDECIDED}
+use Rattle.caller.specs.declared.refusal.Refusal.{Refusal}
+use Rattle.caller.specs.declared.refusal.Refusal.the-variants.{NoRefusal, Refused}
+use Rattle.caller.specs.Fates.{UNDECIDED}
 use Rattle.codec_pairing.specs.Refusals.{Reads, numberOf, hasCause, readOf, gives, lowest, refusedBy, isUndecided}
 
 module _ (cause : Cause) (f : Reads) where

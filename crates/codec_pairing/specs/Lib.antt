@@ -1,4 +1,3 @@
-pub mod Fates
 pub mod Pairing
 pub mod Refusals
 pub mod Search

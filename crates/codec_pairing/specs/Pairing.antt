@@ -9,7 +9,7 @@ use Rattle.lists.specs.Numbers.{numbersFrom}
 use Rattle.caller.specs.Reasons.{numberOf}
 use Rattle.caller.specs.declared.reason.RejectionReason.the-variants.{FragmentRead, NotPrimaryFrPair}
 use Rattle.raw_bam.specs.Flags.{PAIRED, FIRST-SEGMENT, SECONDARY, SUPPLEMENTARY, hasFlag}
-use Rattle.codec_pairing.specs.Fates.{UNDECIDED, PASSED-OVER}
+use Rattle.caller.specs.Fates.{UNDECIDED, PASSED-OVER}
 
 -- the columns are equally long
 pub record Columns (flags names : List ℕ) (verdicts : List Bool) : Type 0 where

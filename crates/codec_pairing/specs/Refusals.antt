@@ -3,29 +3,25 @@ use mathlib.Core.Bool.{Bool, false, cond, not, _&&_, _||_}
 use mathlib.Core.List.{List, [], _∷_, map}
 use mathlib.Core.Path.{_≡_}
 use Prim.Native.Nat.{ℕ, _+_}
-use lib.Dec.{eqb, leb, ltb}
-use lib.ListN.{length, getD, take, drop}
+use lib.Dec.{eqb, ltb}
+use lib.ListN.{length, getD}
 use Rattle.lists.specs.Every.{every}
 use Rattle.lists.specs.Numbers.{numbersFrom}
-use Rattle.raw_bam.specs.Cigar.{opLength, opCode, readLength, referenceLength}
-use Rattle.codec_pairing.specs.Fates.{UNDECIDED}
+use Rattle.raw_bam.specs.Cigar.{isOperation, partOf, readLength, referenceLength}
+use Rattle.caller.specs.Fates.{UNDECIDED}
+use Rattle.caller.specs.Refusals.{orElse}
+use Rattle.caller.specs.declared.refusal.Refusal.{Refusal}
+use Rattle.caller.specs.declared.refusal.Refusal.the-variants.{NoRefusal, Refused}
 use Rattle.codec_pairing.specs.declared.refusal.Cause.{Cause}
 use Rattle.codec_pairing.specs.declared.refusal.Cause.the-variants.{Part, Words, Bases, Place}
 use Rattle.codec_pairing.specs.declared.refusal.Read.{Read}
-use Rattle.codec_pairing.specs.declared.refusal.Refusal.{Refusal}
-use Rattle.codec_pairing.specs.declared.refusal.Refusal.the-variants.{NoRefusal, Refused}
 
--- 'each record's operations are a part of that slice starting anywhere'
 abbrev pub opsOf : List ℕ → Read → List ℕ
-opsOf ops r = take (r .count) (drop (r .start) ops)
+opsOf ops r = partOf ops (r .start) (r .count)
 
 -- 3: 'operations outside the slice, or over 64'
 unfoldable pub badPart : ℕ → Read → Bool
 badPart words r = ltb words (r .start + r .count) || ltb 64 (r .count)
-
--- a code of 0 to 8, and a length that is not 0
-abbrev pub isOperation : ℕ → Bool
-isOperation word = leb (opCode word) 8 && ltb 0 (opLength word)
 
 -- 4: 'code above 8 or length 0'
 unfoldable pub badWords : List ℕ → Bool
@@ -83,11 +79,6 @@ lowest number (i ∷ later) = Refused number i
 -- 'then lowest record'
 unfoldable pub refusedBy : Cause → Reads → Refusal
 refusedBy cause f = lowest (numberOf cause) (numbersFrom (gives cause f) 0 (length (f .clipped)))
-
--- the next cause counts where this one refuses nothing
-abbrev pub orElse : Refusal → Refusal → Refusal
-orElse NoRefusal next = next
-orElse (Refused number i) next = Refused number i
 
 -- 'Lowest number first', over all records
 unfoldable pub refusalOfRecords : Reads → Refusal

@@ -1,4 +1,3 @@
 // Which records of a family pair up by name, and what is refused of those that do.
-pub mod fates;
 pub mod pairing;
 pub mod refusal;

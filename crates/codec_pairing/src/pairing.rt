@@ -1,6 +1,6 @@
 // Steps 1 and 2: the records that pair up by name, and the two sides that they enter.
-use crate::fates::PASSED_OVER;
-use crate::fates::UNDECIDED;
+use caller::fates::PASSED_OVER;
+use caller::fates::UNDECIDED;
 use caller::reason::RejectionReason;
 use raw_bam::flags::is_first_segment;
 use raw_bam::flags::is_paired;

@@ -1,10 +1,12 @@
 // Refusals 1 to 6: what a family may not hold, asked before any step.
-use crate::fates::UNDECIDED;
+use caller::fates::UNDECIDED;
+use caller::refusal::Refusal;
 use raw_bam::cigar::bases_of_cigar;
+use raw_bam::cigar::is_operation;
 ghost use mathlib.Core.Path.{_≡_};
 ghost use Prim.Native.Nat.{_≤_, min};
 ghost use lib.ListN.{length};
-ghost use Rattle.codec_pairing.specs.Refusals.{opsOf, badPart, isOperation, badWords, badBases, badPlace, numberOf, hasCause, Alike, reads, refusedBy, refusalOfRecords, firstRefusal};
+ghost use Rattle.codec_pairing.specs.Refusals.{opsOf, badPart, badWords, badBases, badPlace, numberOf, hasCause, Alike, reads, refusedBy, refusalOfRecords, firstRefusal};
 
 // What the refusals look at of a record, beside its operations.
 pub struct Read {
@@ -20,12 +22,6 @@ pub enum Cause {
     Words,
     Bases,
     Place,
-}
-
-// The refusal's number, and the record or 0 that goes with it.
-pub enum Refusal {
-    NoRefusal,
-    Refused(u32, usize),
 }
 
 impl Cause {
@@ -49,15 +45,6 @@ fn is_bad_part(words: usize, read: Read) -> bool
         return true;
     }
     64 < read.count
-}
-
-fn is_operation(word: u32) -> bool
-    ensures { λ r. ⌜ r ≡ isOperation word ⌝ }
-{
-    if 8 < word % 16 {
-        return false;
-    }
-    0 < word / 16
 }
 
 fn has_bad_word(part: &[u32]) -> bool

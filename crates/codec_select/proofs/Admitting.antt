@@ -10,7 +10,7 @@ use Rattle.codec_select.specs.Alignments.{Alignments, EnteredAdmissible}
 use Rattle.codec_pairing.specs.Pairing.{isEntered}
 use Rattle.codec_pairing.specs.Refusals.{Alike, Reads, reads, firstRefusal}
 use Rattle.codec_select.specs.Steps.{fatesOf}
-use Rattle.codec_pairing.specs.declared.refusal.Refusal.the-variants.{NoRefusal}
+use Rattle.caller.specs.declared.refusal.Refusal.the-variants.{NoRefusal}
 use Rattle.codec_select.proofs.Sound.{entered-sound, sound-alignment}
 use Rattle.codec_pairing.proofs.Undecided.{fates-entered}
 

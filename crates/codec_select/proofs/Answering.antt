@@ -2,24 +2,38 @@
 use mathlib.Core.Bool.{Bool, true, false, cond}
 use mathlib.Core.List.{List, []}
 use mathlib.Core.Path.{_≡_, refl, sym, _∙_, ap}
-use Prim.Native.Nat.{ℕ, _<_}
-use borrow.Author.Tests.{lt-ltb, ltb-true}
+use Prim.Native.Nat.{ℕ, _≤_, _<_}
+use native.Mathlib.Omega.{arith}
+use borrow.Author.Tests.{lt-ltb, le-ltb, ltb-true, ltb-false}
 use lib.Dec.{ltb}
 use lib.IntN.{ℤ}
-use lib.ListN.{length, take, length-map}
+use lib.ListN.{length, take}
 use Rattle.codec_select.specs.Alignments.{Alignments, alignments, alignmentsOf}
 use Rattle.codec_select.specs.Marks.{marks, sideFlags}
 use Rattle.codec_select.specs.Records.{column}
 use Rattle.codec_pairing.specs.Refusals.{firstRefusal}
-use Rattle.codec_select.specs.Selection.{answerOf, outcomeOf, Selects}
-use Rattle.codec_select.specs.Steps.{Outcome, unlessRefused, selected}
+use Rattle.codec_select.specs.Selection.{outcomeOf, SelectsInto, Selects}
+use Rattle.codec_select.specs.Steps.{Outcome, OutcomeIn, unlessRefused, selected}
 use Rattle.codec_select.specs.declared.options.Options.{Options}
 use Rattle.codec_select.specs.declared.records.Record.{Record}
-use Rattle.codec_pairing.specs.declared.refusal.Refusal.the-variants as refusals
+use Rattle.caller.specs.declared.refusal.Refusal.the-variants as refusals
 use Rattle.codec_select.specs.declared.selection.Decision.{Decision}
 use Rattle.codec_select.specs.declared.selection.Decision.the-variants.{Refused}
 use Rattle.codec_select.specs.declared.selection.Selection.{Selection}
+use Rattle.codec_select.specs.declared.selection.Sides.{Sides}
 use Rattle.codec_select.proofs.Words.{no-marks}
+
+-- as many records as a table has room for
+module _ (n count : ℕ) (e : n ≡ cond (ltb 512 count) 0 count) where
+  pub room-all : count ≤ 512 → n ≡ count
+  room-all few = rw (le-ltb 512 count few) at e
+
+  pub room-few : n ≤ 512
+  room-few = by (ltb 512 count) refl e
+    where
+      by : (test : Bool) → ltb 512 count ≡ test → n ≡ cond test 0 count → n ≤ 512
+      by true many f = omega arith
+      by false few f = omega (arith, ltb-false 512 count few)
 
 -- 1 where the minimum duplex length is refused too, else 2
 abbrev refusedMany : Options → Decision
@@ -40,37 +54,44 @@ many-refused : (o : Options) (count : ℕ) → 512 < count → (names : List ℕ
 unfolding selected firstRefusal
 many-refused o count many names verdicts ranks a = rw (lt-ltb 512 count many) (by-minimum (ltb 2147483647 (o .«min_duplex_length»)) _ _)
 
+records-refused : (o : Options) (count : ℕ) → 512 < count → (records : List Record) (ops : List ℕ) → Unkept (refusedMany o) (outcomeOf o count records ops)
+records-refused o count many records ops =
+    many-refused o count many (column Record.name records) (column Record.verdict records) (column Record.rank records) (alignmentsOf records ops)
+
 -- of too many records, no other records make a difference
 pub selects-many : (o : Options) (count : ℕ) → 512 < count → (some others : List Record) (ops : List ℕ) (s : Selection) → Selects o count some ops s → Selects o count others ops s
 selects-many o count many some others ops s selects =
-    let own = refused some in
-    let other = refused others in
+    let own = records-refused o count many some ops in
+    let other = records-refused o count many others ops in
     record {
       decision = selects .decision ∙ own .ends ∙ sym (other .ends);
       r1 = selects .r1 ∙ unmarked (outcomeOf o count some ops .r1) (outcomeOf o count others ops .r1) (length some) (length others) (own .no-r1) (other .no-r1);
       r2 = selects .r2 ∙ unmarked (outcomeOf o count some ops .r2) (outcomeOf o count others ops .r2) (length some) (length others) (own .no-r2) (other .no-r2);
     }
   where
-    refused : (records : List Record) → Unkept (refusedMany o) (outcomeOf o count records ops)
-    refused records = many-refused o count many (column Record.name records) (column Record.verdict records) (column Record.rank records) (alignmentsOf records ops)
-
     unmarked : (xs ys : List ℕ) (m n : ℕ) → xs ≡ [] → ys ≡ [] → marks (sideFlags xs m) ≡ marks (sideFlags ys n)
     unmarked xs ys m n e f = rw (e, f, no-marks m, no-marks n)
 
--- the answer on columns that are the records' fields
-pub of-records : (o : Options) (count : ℕ) (records : List Record) (ops : List ℕ) (s : Selection)
+-- what is given on columns that are the records' fields
+pub of-records : (o : Options) (count : ℕ) (records : List Record) (ops : List ℕ) (sides : Sides) (fates r1 r2 : List ℕ)
     {flags names : List ℕ} {verdicts : List Bool} {ranks : List ℤ} {clipped positions starts counts : List ℕ}
     → flags ≡ column Record.flags records → names ≡ column Record.name records → verdicts ≡ column Record.verdict records → ranks ≡ column Record.rank records
     → clipped ≡ column Record.clipped records → positions ≡ column Record.position records → starts ≡ column Record.start records → counts ≡ column Record.count records
-    → s ≡ answerOf (length flags) (selected o count names verdicts ranks (alignments flags clipped positions starts counts ops))
-    → s ≡ answerOf (length (column Record.flags records)) (outcomeOf o count records ops)
-of-records o count records ops s a b c d e f g h answer = rw (a, b, c, d, e, f, g, h) at answer
+    → OutcomeIn (selected o count names verdicts ranks (alignments flags clipped positions starts counts ops)) sides fates r1 r2
+    → OutcomeIn (outcomeOf o count records ops) sides fates r1 r2
+of-records o count records ops sides fates r1 r2 a b c d e f g h given = rw (a, b, c, d, e, f, g, h) at given
 
--- an answer as a whole tells its parts
-pub answered : (o : Options) (count : ℕ) (records : List Record) (ops : List ℕ) (s : Selection) → s ≡ answerOf (length (column Record.flags records)) (outcomeOf o count records ops) → Selects o count records ops s
-answered o count records ops s e =
-    let size = length-map records Record.flags in
-    record { decision = ap (λ (t : Selection). t .decision) e; r1 = ap (λ (t : Selection). t .r1) e ∙ rw size; r2 = ap (λ (t : Selection). t .r2) e ∙ rw size }
+-- the sides as mark words
+pub selects-marked : (o : Options) (count : ℕ) (records : List Record) (ops : List ℕ) (n : ℕ) (sides : Sides) (fates r1 r2 : List ℕ) (s : Selection)
+    → n ≡ length records → SelectsInto o count records ops sides fates r1 r2
+    → s .decision ≡ sides .decision → s .r1 ≡ marks (sideFlags (take (sides .r1) r1) n) → s .r2 ≡ marks (sideFlags (take (sides .r2) r2) n)
+    → Selects o count records ops s
+selects-marked o count records ops n sides fates r1 r2 s size into d e f =
+    record {
+      decision = d ∙ into .decision;
+      r1 = e ∙ rw (into .r1-fills .front, size);
+      r2 = f ∙ rw (into .r2-fills .front, size);
+    }
 
 -- the first records of a table, or none of too many
 pub selects-room : (o : Options) (count : ℕ) (table : List Record) (ops : List ℕ) (n : ℕ) (s : Selection)
@@ -81,3 +102,26 @@ selects-room o count table ops n s e selects = by (ltb 512 count) refl e
     by : (test : Bool) → ltb 512 count ≡ test → n ≡ cond test 0 count → Selects o count (take count table) ops s
     by true many f = selects-many o count (ltb-true 512 count many) (take n table) (take count table) ops s selects
     by false few f = rw f at selects
+
+-- every list of records that the table holds; of too many, any list
+pub into-records : (o : Options) (count : ℕ) (table : List Record) (ops : List ℕ) (n : ℕ) (sides : Sides) (fates r1 r2 : List ℕ)
+    → n ≡ cond (ltb 512 count) 0 count
+    → OutcomeIn (outcomeOf o count (take n table) ops) sides fates r1 r2
+    → (records : List Record) → (count ≤ 512 → take count table ≡ records) → SelectsInto o count records ops sides fates r1 r2
+into-records o count table ops n sides fates r1 r2 e given records holds = by (ltb 512 count) refl e
+  where
+    by : (test : Bool) → ltb 512 count ≡ test → n ≡ cond test 0 count → SelectsInto o count records ops sides fates r1 r2
+    by true test f =
+        let many = ltb-true 512 count test in
+        let own = records-refused o count many (take n table) ops in
+        let other = records-refused o count many records ops in
+        record {
+          decision = given .decision ∙ own .ends ∙ sym (other .ends);
+          fates-are = λ few. absurd (omega (arith, many, few));
+          r1-fills = rw (own .no-r1 ∙ sym (other .no-r1)) at (given .r1-fills);
+          r2-fills = rw (own .no-r2 ∙ sym (other .no-r2)) at (given .r2-fills);
+        }
+    by false test f =
+        let same : take n table ≡ records = ap (λ (k : ℕ). take k table) f ∙ holds (ltb-false 512 count test) in
+        let own : OutcomeIn (outcomeOf o count records ops) sides fates r1 r2 = rw same at given in
+        record { decision = own .decision; fates-are = λ few. own .fates-are; r1-fills = own .r1-fills; r2-fills = own .r2-fills }

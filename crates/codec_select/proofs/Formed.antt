@@ -1,6 +1,6 @@
 -- A side of admissible records stays one through steps 4 and 5.
 use mathlib.Core.Bool.{Bool, true, false, cond, _&&_}
-use mathlib.Core.List.{List}
+use mathlib.Core.List.{List, []}
 use mathlib.Core.Path.{_≡_, refl, sym, _∙_, ap}
 use Prim.Native.Nat.{ℕ, _≤_, _<_}
 use native.Mathlib.Omega.{arith}
@@ -11,11 +11,11 @@ use Rattle.caller.specs.Reasons.{numberOf}
 use Rattle.caller.specs.declared.reason.RejectionReason.the-variants.{Downsampled}
 use Rattle.codec_select.specs.Alignments.{Alignments, Admissible, Formed, Sided, EnteredAdmissible}
 use Rattle.codec_pairing.specs.Pairing.{sideR1, sideR2}
-use Rattle.codec_select.specs.Side.{Below, kept, dropped, underCap, marked}
+use Rattle.codec_select.specs.Side.{Below, kept, dropped, underCap, givenFate}
 use Rattle.codec_select.specs.Steps.{Fills, isInGroup, grouped, capIsZero, capped, withExcess}
 use Rattle.codec_select.specs.declared.options.Options.{Options}
 use Rattle.codec_pairing.proofs.Entered.{length-sideR2, sides-half, sideR1-entered, sideR2-entered}
-use Rattle.codec_select.proofs.Keeping.{length-kept, kept-each, length-marked}
+use Rattle.codec_select.proofs.Keeping.{length-kept, kept-each, length-givenFate}
 use Rattle.codec_select.proofs.Remaining.{group-nonempty, cap-nonempty}
 use borrow.Author.Tests.{eqb-false}
 
@@ -53,8 +53,8 @@ length-withExcess o ranks side fates = by (o .«has_max_reads_per_strand»)
     excess : List ℕ
     excess = dropped side (underCap ranks (o .«max_reads_per_strand») side)
 
-    by : (has : Bool) → length (cond has (marked (numberOf Downsampled) excess fates) fates) ≡ length fates
-    by true = length-marked (numberOf Downsampled) excess fates
+    by : (has : Bool) → length (cond has (givenFate (numberOf Downsampled) excess fates) fates) ≡ length fates
+    by true = length-givenFate (numberOf Downsampled) excess fates
     by false = refl
 
 -- a count of the first places of a column
@@ -88,6 +88,11 @@ module _ {xs : List ℕ} {n : ℕ} {column : List ℕ} (fills : Fills xs n colum
 
   pub fills-within : n ≤ length column
   fills-within = count-within n column fills-count
+
+-- where the family is not kept, no place is filled
+pub fills-if : (test : Bool) {xs : List ℕ} {n : ℕ} {column : List ℕ} → Fills xs n column → Fills (cond test xs []) (cond test n 0) column
+fills-if true fills = fills
+fills-if false fills = record { count = refl; front = refl }
 
 -- a side that fills the first places of a column
 pub formed-sided : {a : Alignments} {ranks : List ℤ} {fates side column : List ℕ} {n : ℕ}

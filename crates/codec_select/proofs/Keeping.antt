@@ -1,4 +1,4 @@
--- Laws of the records that stay, and of a column where some records are marked.
+-- Laws of the records that stay, and of the fates of some records.
 use mathlib.Core.Bool.{Bool, true, false, cond}
 use mathlib.Core.List.{List, [], _∷_}
 use mathlib.Core.Path.{_≡_, refl, sym, _∙_, ap, ap₂, fun-ext}
@@ -14,8 +14,9 @@ use lib.Seq.{drop-cons, take-nil, getD-set-same, getD-set-other}
 use Rattle.lists.specs.Tabulate.{tabulate}
 use Rattle.lists.proofs.Places.{getD-within}
 use Rattle.lists.proofs.Tabulate.{length-tabulate, getD-tabulate, tabulate-getD}
-use Rattle.vanilla_caller.specs.Group.{isIn}
-use Rattle.codec_select.specs.Side.{kept, marked}
+use Rattle.caller.specs.Fates.{UNDECIDED, firstFate}
+use Rattle.lists.specs.Member.{isIn}
+use Rattle.codec_select.specs.Side.{kept, givenFate}
 
 -- the record at place k stays, or does not
 module _ (side : List ℕ) (stays : List Bool) (k : ℕ) (h : k < length side) (g : k < length stays) where
@@ -55,29 +56,45 @@ kept-each P (r ∷ side) (true ∷ stays) holds zero h = holds 0 (suc-le-suc zer
 kept-each P (r ∷ side) (true ∷ stays) holds (suc k) h = kept-each P side stays (λ j below. holds (suc j) (suc-le-suc below)) k (le-of-suc-le-suc h)
 kept-each P (r ∷ side) (false ∷ stays) holds k h = kept-each P side stays (λ j below. holds (suc j) (suc-le-suc below)) k h
 
-module _ {A : Type 0} where
-  pub marked-none : (value : A) (column : List A) → marked value [] column ≡ column
-  unfolding marked isIn
-  marked-none value column = tabulate-getD column value
+-- a fate that has fallen falls no second time
+fallen : (fate own : ℕ) → firstFate fate (firstFate fate own) ≡ firstFate fate own
+fallen fate own = by (eqb own UNDECIDED) refl
+  where
+    same : (test : Bool) → cond test fate fate ≡ fate
+    same true = refl
+    same false = refl
+
+    by : (test : Bool) → eqb own UNDECIDED ≡ test → firstFate fate (cond test fate own) ≡ cond test fate own
+    by true e = same (eqb fate UNDECIDED)
+    by false e = rw e
+
+module _ (fate : ℕ) where
+  pub givenFate-none : (fates : List ℕ) → givenFate fate [] fates ≡ fates
+  unfolding givenFate isIn
+  givenFate-none fates = tabulate-getD fates UNDECIDED
 
   -- one record more
-  pub marked-more : (value : A) (r : ℕ) (records : List ℕ) (column : List A) → r < length column → marked value (r ∷ records) column ≡ marked value records (set column r value)
-  unfolding marked isIn
-  marked-more value r records column h = ap₂ (tabulate {A = A}) (fun-ext (λ q. at q (ℕ-discrete q r))) (sym (length-set column r value))
+  pub givenFate-more : (r : ℕ) (records fates : List ℕ) → r < length fates → givenFate fate (r ∷ records) fates ≡ givenFate fate records (set fates r (firstFate fate (getD fates r UNDECIDED)))
+  unfolding givenFate isIn
+  givenFate-more r records fates h = ap₂ (tabulate {A = ℕ}) (fun-ext (λ q. at q (ℕ-discrete q r))) (sym (length-set fates r own))
     where
-      same : (b : Bool) → value ≡ cond b value value
-      same true = refl
-      same false = refl
+      own : ℕ
+      own = firstFate fate (getD fates r UNDECIDED)
 
-      at : (q : ℕ) → Dec (q ≡ r) → cond (cond (eqb q r) true (isIn q records)) value (getD column q value) ≡ cond (isIn q records) value (getD (set column r value) q value)
-      at q (yes e) = rw (eq-eqb q r e, e, getD-set-same column r value value h) (same (isIn r records))
-      at q (no differ) = rw (ne-eqb q r differ, getD-set-other column r q value value differ)
+      same : (test : Bool) (x y : ℕ) → x ≡ y → y ≡ cond test x y
+      same true x y e = sym e
+      same false x y e = refl
 
-  pub length-marked : (value : A) (records : List ℕ) (column : List A) → length (marked value records column) ≡ length column
-  unfolding marked
-  length-marked value records column = length-tabulate (λ r. cond (isIn r records) value (getD column r value)) (length column)
+      at : (q : ℕ) → Dec (q ≡ r)
+          → cond (cond (eqb q r) true (isIn q records)) (firstFate fate (getD fates q UNDECIDED)) (getD fates q UNDECIDED) ≡ cond (isIn q records) (firstFate fate (getD (set fates r own) q UNDECIDED)) (getD (set fates r own) q UNDECIDED)
+      at q (yes e) = rw (eq-eqb q r e, e, getD-set-same fates r own UNDECIDED h) (same (isIn r records) (firstFate fate own) own (fallen fate (getD fates r UNDECIDED)))
+      at q (no differ) = rw (ne-eqb q r differ, getD-set-other fates r q own UNDECIDED differ)
 
-  pub getD-marked : (value : A) (records : List ℕ) (column : List A) (r : ℕ) (d : A) → r < length column → getD (marked value records column) r d ≡ cond (isIn r records) value (getD column r d)
-  unfolding marked
-  getD-marked value records column r d h =
-      getD-tabulate (λ q. cond (isIn q records) value (getD column q value)) (length column) r d h ∙ rw (getD-within column r value d h)
+  pub length-givenFate : (records fates : List ℕ) → length (givenFate fate records fates) ≡ length fates
+  unfolding givenFate
+  length-givenFate records fates = length-tabulate (λ r. cond (isIn r records) (firstFate fate (getD fates r UNDECIDED)) (getD fates r UNDECIDED)) (length fates)
+
+  pub getD-givenFate : (records fates : List ℕ) (r d : ℕ) → r < length fates → getD (givenFate fate records fates) r d ≡ cond (isIn r records) (firstFate fate (getD fates r d)) (getD fates r d)
+  unfolding givenFate
+  getD-givenFate records fates r d h =
+      getD-tabulate (λ q. cond (isIn q records) (firstFate fate (getD fates q UNDECIDED)) (getD fates q UNDECIDED)) (length fates) r d h ∙ rw (getD-within fates r UNDECIDED d h)

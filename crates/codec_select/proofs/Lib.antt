@@ -3,8 +3,11 @@ pub mod Answering
 pub mod Formed
 pub mod Gathered
 pub mod Keeping
+pub mod Measured
 pub mod Most
+pub mod Outcomes
 pub mod Remaining
+pub mod Settled
 pub mod Sound
 pub mod Tables
 pub mod Words

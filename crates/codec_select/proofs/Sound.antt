@@ -11,13 +11,14 @@ use Rattle.lists.specs.Every.{every}
 use Rattle.lists.specs.Numbers.{numbersFrom}
 use Rattle.lists.proofs.Cases.{or-neither, fails-of-never}
 use Rattle.lists.proofs.Numbers.{numbers-has}
-use Rattle.raw_bam.specs.Cigar.{readLength, referenceLength}
+use Rattle.raw_bam.specs.Cigar.{isOperation, readLength, referenceLength}
 use Rattle.codec_pairing.specs.declared.refusal.Cause.{Cause}
 use Rattle.codec_pairing.specs.declared.refusal.Cause.the-variants.{Part, Words, Bases, Place}
 use Rattle.codec_pairing.specs.declared.refusal.Read.{Read}
-use Rattle.codec_pairing.specs.declared.refusal.Refusal.{Refusal}
-use Rattle.codec_pairing.specs.declared.refusal.Refusal.the-variants.{NoRefusal, Refused}
-use Rattle.codec_pairing.specs.Refusals.{Reads, opsOf, badPart, isOperation, badWords, badBases, badPlace, hasCause, readOf, gives, lowest, refusedBy, orElse, refusalOfRecords, firstRefusal}
+use Rattle.caller.specs.Refusals.{orElse}
+use Rattle.caller.specs.declared.refusal.Refusal.{Refusal}
+use Rattle.caller.specs.declared.refusal.Refusal.the-variants.{NoRefusal, Refused}
+use Rattle.codec_pairing.specs.Refusals.{Reads, opsOf, badPart, badWords, badBases, badPlace, hasCause, readOf, gives, lowest, refusedBy, refusalOfRecords, firstRefusal}
 use Rattle.codec_window.specs.Window.{alignment, Admitted}
 
 -- what refusals 3 to 6 leave of a record

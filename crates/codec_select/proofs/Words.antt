@@ -1,24 +1,24 @@
 -- Laws of marks: the words of a list of flags, and the flags of a side.
-use mathlib.Core.Bool.{Bool, true, false, cond}
+use mathlib.Core.Bool.{Bool, true, false, cond, _||_}
 use mathlib.Core.List.{List, [], _∷_}
-use mathlib.Core.Path.{_≡_, refl, sym, _∙_, ap, fun-ext}
+use mathlib.Core.Path.{_≡_, refl, sym, _∙_, ap, ap₂, fun-ext}
 use Prim.Native.Nat.{ℕ, zero, suc, _+_, _-_, _*_, _^_, _/_, _%_, _≤_, _<_, min}
-use native.Mathlib.Decide.{decLt}
+use native.Mathlib.Decide.{decLt, ℕ-discrete}
 use native.Mathlib.Nat.{zero-div}
 use native.Mathlib.Numerals.{add-one}
 use native.Mathlib.Omega.{arith}
-use lib.ListN.{length, getD, take, drop, replicate, length-replicate, replicate-append-replicate, drop-of-length-le, List·getD-append}
+use borrow.Author.Tests.{eq-eqb, ne-eqb}
+use lib.Dec.{eqb}
+use lib.ListN.{length, getD, set, take, drop, replicate, length-replicate, length-set, replicate-append-replicate, drop-of-length-le, List·getD-append}
 use lib.Pow.{pow-mono, shr-shr}
-use lib.Seq.{drop-cons, take-nil, ext-getD, getD-take, getD-drop, length-take-le}
+use lib.Seq.{getD-set-same, getD-set-other, drop-cons, take-nil, ext-getD, getD-take, getD-drop, length-take-le}
 use Rattle.lists.specs.Tabulate.{tabulate}
 use Rattle.lists.specs.Written.{written}
 use Rattle.lists.proofs.Places.{getD-repeated}
-use Rattle.lists.proofs.Tabulate.{length-tabulate, getD-tabulate}
+use Rattle.lists.proofs.Tabulate.{length-tabulate, getD-tabulate, tabulate-getD}
 use Rattle.lists.proofs.Written.{length-written, getD-written-beyond}
-use Rattle.vanilla_caller.specs.Group.{isIn}
-use Rattle.codec_select.specs.Marks.{wordOf, wordAt, marks, sideFlags}
-use Rattle.codec_select.specs.Side.{marked}
-use Rattle.codec_select.proofs.Keeping.{length-marked, getD-marked}
+use Rattle.lists.specs.Member.{isIn}
+use Rattle.codec_select.specs.Marks.{wordOf, wordAt, marks, flagged, sideFlags}
 use Rattle.lists.proofs.Parts.{part-within}
 
 -- one flag more, in front of the others
@@ -94,24 +94,42 @@ pub length-sideFlags : (side : List ℕ) (n : ℕ) → length (sideFlags side n)
 unfolding sideFlags
 length-sideFlags side n = length-tabulate (λ i. isIn i side) n
 
+pub flagged-none : (flags : List Bool) → flagged [] flags ≡ flags
+unfolding flagged isIn
+flagged-none flags = tabulate-getD flags false
+
+-- one record more
+pub flagged-more : (r : ℕ) (records : List ℕ) (flags : List Bool) → r < length flags → flagged (r ∷ records) flags ≡ flagged records (set flags r true)
+unfolding flagged isIn
+flagged-more r records flags h = ap₂ (tabulate {A = Bool}) (fun-ext (λ q. at q (ℕ-discrete q r))) (sym (length-set flags r true))
+  where
+    set-by : (test : Bool) → true ≡ test || true
+    set-by true = refl
+    set-by false = refl
+
+    at : (q : ℕ) → Dec (q ≡ r) → cond (eqb q r) true (isIn q records) || getD flags q false ≡ isIn q records || getD (set flags r true) q false
+    at q (yes e) = rw (eq-eqb q r e, e, getD-set-same flags r true false h) (set-by (isIn r records))
+    at q (no differ) = rw (ne-eqb q r differ, getD-set-other flags r q true false differ)
+
 -- of flags that are set for a side's records alone, the first n
-pub side-flagged : (side : List ℕ) (n m : ℕ) → n ≤ m → take n (marked true side (replicate m false)) ≡ sideFlags side n
-unfolding sideFlags
+pub side-flagged : (side : List ℕ) (n m : ℕ) → n ≤ m → take n (flagged side (replicate m false)) ≡ sideFlags side n
+unfolding flagged sideFlags
 side-flagged side n m h =
-    let flags = marked true side (replicate m false) in
-    let room : length flags ≡ m = length-marked true side (replicate m false) ∙ length-replicate m false in
+    let none = replicate m false in
+    let flags = tabulate (λ r. isIn r side || getD none r false) (length none) in
+    let room : length flags ≡ m = length-tabulate (λ r. isIn r side || getD none r false) (length none) ∙ length-replicate m false in
     let size : length (take n flags) ≡ n = length-take-le n flags (rw room h) in
     ext-getD false (take n flags) (tabulate (λ i. isIn i side) n) (size ∙ sym (length-tabulate (λ i. isIn i side) n))
     (λ i within.
     let below : i < n = rw size at within in
     getD-take n flags i false below
-    ∙ getD-marked true side (replicate m false) i false (rw (length-replicate m false) (omega arith))
-    ∙ rw (getD-repeated m i false) (set-alone (isIn i side))
+    ∙ getD-tabulate (λ r. isIn r side || getD none r false) (length none) i false (rw (length-replicate m false) (omega arith))
+    ∙ rw (getD-repeated m i false) (unset (isIn i side))
     ∙ sym (getD-tabulate (λ k. isIn k side) n i false below))
   where
-    set-alone : (flag : Bool) → cond flag true false ≡ flag
-    set-alone true = refl
-    set-alone false = refl
+    unset : (flag : Bool) → flag || false ≡ flag
+    unset true = refl
+    unset false = refl
 
 -- no record, no mark
 no-front : (m n : ℕ) → wordOf (take m (replicate n false)) ≡ 0

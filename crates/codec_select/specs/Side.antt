@@ -4,12 +4,14 @@ use mathlib.Core.List.{List, [], _∷_, map}
 use Prim.Native.Nat.{ℕ, suc, _+_, _≤_, _<_, max}
 use lib.Dec.{eqb}
 use lib.IntN.{ℤ, pos}
-use lib.ListN.{length, getD, take, drop}
+use lib.ListN.{length, getD}
 use Rattle.lists.specs.Tabulate.{tabulate}
+use Rattle.caller.specs.Fates.{UNDECIDED, firstFate}
 use Rattle.caller.specs.Ranking.{lowestRanking}
-use Rattle.raw_bam.specs.Cigar.{referenceLength}
+use Rattle.raw_bam.specs.Cigar.{partOf, referenceLength}
 use Rattle.raw_bam.specs.Flags.{REVERSE, hasFlag}
-use Rattle.vanilla_caller.specs.Group.{staying, isIn}
+use Rattle.lists.specs.Member.{isIn}
+use Rattle.vanilla_caller.specs.Group.{staying}
 use Rattle.vanilla_caller.specs.Side.{listOf}
 
 -- every record of a side is one of the first n
@@ -54,13 +56,14 @@ kept (r ∷ side) (stays ∷ more) = cond stays (r ∷ kept side more) (kept sid
 abbrev pub dropped : List ℕ → List Bool → List ℕ
 dropped side stays = kept side (map not stays)
 
--- a column, where the records in a list have a new value, and each other keeps its own
-unfoldable pub marked : {A : Type 0} → A → List ℕ → List A → List A
-marked value records column = tabulate (λ r. cond (isIn r records) value (getD column r value)) (length column)
+-- a fate falls on each record in a list that has none yet: 'A record keeps its first fate'
+unfoldable pub givenFate : ℕ → List ℕ → List ℕ → List ℕ
+givenFate fate records fates =
+    tabulate (λ r. cond (isIn r records) (firstFate fate (getD fates r UNDECIDED)) (getD fates r UNDECIDED)) (length fates)
 
 -- the operations of record r, and the reference bases that they cover
 abbrev pub operationsOf : List ℕ → List ℕ → List ℕ → ℕ → List ℕ
-operationsOf ops starts counts r = take (getD counts r 0) (drop (getD starts r 0) ops)
+operationsOf ops starts counts r = partOf ops (getD starts r 0) (getD counts r 0)
 
 unfoldable pub referenceBasesOf : List ℕ → List ℕ → List ℕ → ℕ → ℕ
 referenceBasesOf ops starts counts r = referenceLength (operationsOf ops starts counts r)

@@ -13,14 +13,15 @@ use Rattle.raw_bam.specs.Flags.{REVERSE, hasFlag}
 use Rattle.codec_select.specs.Alignments.{Alignments, alignmentOf}
 use Rattle.codec_pairing.specs.Pairing.{fateOf, sideR1, sideR2}
 use Rattle.codec_pairing.specs.Refusals.{reads, firstRefusal}
-use Rattle.codec_select.specs.Side.{inGroup, underCap, kept, dropped, marked, longestOf}
+use Rattle.codec_select.specs.Side.{inGroup, underCap, kept, dropped, givenFate, longestOf}
 use Rattle.codec_window.specs.Window.{overlap}
 use Rattle.codec_select.specs.declared.options.Options.{Options}
 use Rattle.codec_select.specs.declared.overlapping.Longest.{Longest}
-use Rattle.codec_pairing.specs.declared.refusal.Refusal.{Refusal}
-use Rattle.codec_pairing.specs.declared.refusal.Refusal.the-variants as refusals
+use Rattle.caller.specs.declared.refusal.Refusal.{Refusal}
+use Rattle.caller.specs.declared.refusal.Refusal.the-variants as refusals
 use Rattle.codec_select.specs.declared.selection.Decision.{Decision}
 use Rattle.codec_select.specs.declared.selection.Decision.the-variants as decisions
+use Rattle.codec_select.specs.declared.selection.Sides.{Sides}
 use Rattle.codec_window.specs.declared.window.Overlap.{Overlap}
 use Rattle.codec_window.specs.declared.window.Overlap.the-variants as overlaps
 
@@ -47,7 +48,7 @@ grouped a side = kept side (isInGroup a side)
 
 -- the others are MinorityAlignment
 abbrev pub withMinority : Alignments → List ℕ → List ℕ → List ℕ
-withMinority a side fates = marked (numberOf MinorityAlignment) (dropped side (isInGroup a side)) fates
+withMinority a side fates = givenFate (numberOf MinorityAlignment) (dropped side (isInGroup a side)) fates
 
 -- step 5: 'Cap 0'
 abbrev pub capIsZero : Options → Bool
@@ -61,7 +62,7 @@ capped o ranks side = cond (o .«has_max_reads_per_strand») (kept side (underCa
 unfoldable pub withExcess : Options → List ℤ → List ℕ → List ℕ → List ℕ
 withExcess o ranks side fates =
     cond (o .«has_max_reads_per_strand»)
-    (marked (numberOf Downsampled) (dropped side (underCap ranks (o .«max_reads_per_strand») side)) fates)
+    (givenFate (numberOf Downsampled) (dropped side (underCap ranks (o .«max_reads_per_strand») side)) fates)
     fates
 
 -- step 6: the longest record of a side
@@ -144,3 +145,10 @@ selected o records names verdicts ranks a =
 pub record Fills (xs : List ℕ) (n : ℕ) (column : List ℕ) : Type 0 where
   pub count : n ≡ length xs
   pub front : take n column ≡ xs
+
+-- an outcome: the decision, the fates, and each side in the first places of a column
+pub record OutcomeIn (outcome : Outcome) (sides : Sides) (fates r1 r2 : List ℕ) : Type 0 where
+  pub decision : sides .decision ≡ outcome .decision
+  pub fates-are : fates ≡ outcome .fates
+  pub r1-fills : Fills (outcome .r1) (sides .r1) r1
+  pub r2-fills : Fills (outcome .r2) (sides .r2) r2

@@ -2,15 +2,15 @@
 use crate::options::Options;
 use crate::staying::cap_infos_to_lowest_ranking;
 use crate::staying::filter_to_most_common_alignment_raw;
+use crate::staying::give_fate_to_dropped;
 use crate::staying::keep_staying;
-use crate::staying::mark_dropped;
 use caller::reason::RejectionReason;
 ghost use mathlib.Core.Path.{_≡_};
 ghost use Prim.Native.Nat.{_≤_};
 ghost use lib.ListN.{length, take};
 ghost use Rattle.caller.specs.Reasons.{numberOf};
 ghost use Rattle.caller.specs.declared.reason.RejectionReason.the-variants.{MinorityAlignment};
-ghost use Rattle.codec_select.specs.Side.{Below, HaveOperations, inGroup, kept, dropped, marked};
+ghost use Rattle.codec_select.specs.Side.{Below, HaveOperations, inGroup, kept, dropped, givenFate};
 ghost use Rattle.codec_select.specs.Steps.{Fills, capped, withExcess};
 
 fn drop_others(side: &mut [usize], stays: &[bool], fate: u8, fates: &mut [u8]) -> usize
@@ -18,10 +18,10 @@ fn drop_others(side: &mut [usize], stays: &[bool], fate: u8, fates: &mut [u8]) -
     requires { ⌜ Below (take (length (now stays)) (now side)) (length (now fates)) ⌝ }
     ensures { λ r. ⌜ Fills (kept (take (length (now (stays .entry))) (now (side .entry))) (now (stays .entry))) r (now (side .exit)) ⌝ }
     ensures { λ _. ⌜ length (now (side .exit)) ≡ length (now (side .entry)) ⌝ }
-    ensures { λ _. ⌜ now (fates .exit) ≡ marked fate (dropped (take (length (now (stays .entry))) (now (side .entry))) (now (stays .entry))) (now (fates .entry)) ⌝ }
+    ensures { λ _. ⌜ now (fates .exit) ≡ givenFate fate (dropped (take (length (now (stays .entry))) (now (side .entry))) (now (stays .entry))) (now (fates .entry)) ⌝ }
 {
     let n = stays.len();
-    mark_dropped(&side[..n], stays, fate, fates);
+    give_fate_to_dropped(&side[..n], stays, fate, fates);
     keep_staying(side, stays)
 }
 
@@ -43,7 +43,7 @@ pub fn keep_group(
     requires { ⌜ (n ≤ length (now side)) × (n ≤ 256) ⌝ }
     ensures { λ r. ⌜ Fills (kept (take n (now (side .entry))) (inGroup (now (ops .entry)) (now (clipped .entry)) (now (starts .entry)) (now (counts .entry)) (now (flags .entry)) (take n (now (side .entry))))) r (now (side .exit)) ⌝ }
     ensures { λ _. ⌜ length (now (side .exit)) ≡ length (now (side .entry)) ⌝ }
-    ensures { λ _. ⌜ now (fates .exit) ≡ marked (numberOf MinorityAlignment) (dropped (take n (now (side .entry))) (inGroup (now (ops .entry)) (now (clipped .entry)) (now (starts .entry)) (now (counts .entry)) (now (flags .entry)) (take n (now (side .entry))))) (now (fates .entry)) ⌝ }
+    ensures { λ _. ⌜ now (fates .exit) ≡ givenFate (numberOf MinorityAlignment) (dropped (take n (now (side .entry))) (inGroup (now (ops .entry)) (now (clipped .entry)) (now (starts .entry)) (now (counts .entry)) (now (flags .entry)) (take n (now (side .entry))))) (now (fates .entry)) ⌝ }
 {
     let mut stays = [false; 256];
     filter_to_most_common_alignment_raw(

@@ -1,15 +1,15 @@
 // The marks of a side's records: one bit a record, in eight words.
-ghost use mathlib.Core.Bool.{true, cond};
+ghost use mathlib.Core.Bool.{cond};
 ghost use mathlib.Core.Path.{_≡_};
 ghost use Prim.Native.Nat.{_+_, _*_, _≤_, min};
 ghost use lib.ListN.{length};
-ghost use Rattle.codec_select.specs.Marks.{wordOf, wordAt, marks, sideFlags};
-ghost use Rattle.codec_select.specs.Side.{Below, marked};
+ghost use Rattle.codec_select.specs.Marks.{wordOf, wordAt, marks, flagged, sideFlags};
+ghost use Rattle.codec_select.specs.Side.{Below};
 
 // Sets the flag of each record of a side.
 pub fn flag_records(side: &[usize], flags: &mut [bool])
     requires { ⌜ Below (now side) (length (now flags)) ⌝ }
-    ensures { λ _. ⌜ now (flags .exit) ≡ marked true (now (side .entry)) (now (flags .entry)) ⌝ }
+    ensures { λ _. ⌜ now (flags .exit) ≡ flagged (now (side .entry)) (now (flags .entry)) ⌝ }
 {
     let mut k = 0;
     while k < side.len() {

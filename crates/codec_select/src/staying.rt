@@ -2,13 +2,14 @@
 use crate::gather::gather_ranks;
 use crate::gather::gather_reverse;
 use crate::gather::gather_u32;
+use caller::fates::first_fate;
 use caller::ranking::select_lowest_ranking;
 use vanilla_caller::group::select_most_common_alignment_group;
 ghost use mathlib.Core.Path.{_≡_};
 ghost use Prim.Native.Nat.{_≤_};
 ghost use lib.ListN.{length};
 ghost use Rattle.lists.specs.Written.{written};
-ghost use Rattle.codec_select.specs.Side.{Below, HaveOperations, inGroup, underCap, kept, dropped, marked};
+ghost use Rattle.codec_select.specs.Side.{Below, HaveOperations, inGroup, underCap, kept, dropped, givenFate};
 
 // Writes for each record of a side of up to 256 whether it is in the most common alignment group.
 pub fn filter_to_most_common_alignment_raw(
@@ -62,17 +63,17 @@ pub fn cap_infos_to_lowest_ranking(
     select_lowest_ranking(&own_ranks[..n], max_reads, stays);
 }
 
-// Gives a fate to each record of a side that does not stay.
-pub fn mark_dropped(side: &[usize], stays: &[bool], fate: u8, fates: &mut [u8])
+// Gives a fate to each record of a side that does not stay and has none yet.
+pub fn give_fate_to_dropped(side: &[usize], stays: &[bool], fate: u8, fates: &mut [u8])
     requires { ⌜ length (now stays) ≡ length (now side) ⌝ }
     requires { ⌜ Below (now side) (length (now fates)) ⌝ }
-    ensures { λ _. ⌜ now (fates .exit) ≡ marked fate (dropped (now (side .entry)) (now (stays .entry))) (now (fates .entry)) ⌝ }
+    ensures { λ _. ⌜ now (fates .exit) ≡ givenFate fate (dropped (now (side .entry)) (now (stays .entry))) (now (fates .entry)) ⌝ }
 {
     let mut k = 0;
     while k < side.len() {
         if !stays[k] {
             let record = side[k];
-            fates[record] = fate;
+            fates[record] = first_fate(fate, fates[record]);
         }
         k += 1;
     }

@@ -1,37 +1,33 @@
 // Steps 1 to 7 of a family whose records are columns.
 use crate::dropping::keep_group;
 use crate::dropping::keep_lowest_ranking;
-use crate::marks::mark_words;
 use crate::options::Options;
 use crate::overlapping::overlap_of_sides;
 use crate::selection::Decision;
-use crate::selection::Selection;
+use crate::selection::Sides;
 use caller::reason::RejectionReason;
+use caller::refusal::Refusal;
 use codec_pairing::pairing::write_fates;
 use codec_pairing::pairing::write_sides;
-use codec_pairing::refusal::Refusal;
 use codec_pairing::refusal::first_refusal;
-ghost use mathlib.Core.Bool.{_||_};
-ghost use mathlib.Core.List.{[]};
+ghost use mathlib.Core.Bool.{cond, _||_};
 ghost use mathlib.Core.Path.{_≡_};
 ghost use Prim.Native.Nat.{_≤_, _<_, _^_};
 ghost use lib.Dec.{ltb};
-ghost use lib.ListN.{length, take, replicate};
-ghost use Rattle.codec_select.specs.Alignments.{alignments, Formed, Sided, EnteredAdmissible};
+ghost use lib.ListN.{length, take};
+ghost use Rattle.codec_select.specs.Alignments.{alignments, Sided, EnteredAdmissible};
 ghost use Rattle.codec_pairing.specs.Pairing.{Columns, sideR1, sideR2};
 ghost use Rattle.codec_pairing.specs.Refusals.{Alike};
-ghost use Rattle.codec_select.specs.Selection.{answerOf};
-ghost use Rattle.codec_select.specs.Side.{Below};
-ghost use Rattle.codec_select.specs.Steps.{capIsZero, isKept, concluded, fromWindow, fromCap, fromSides, selected};
+ghost use Rattle.codec_select.specs.Steps.{OutcomeIn, capIsZero, isKept, fromCap, fromSides, selected};
 
 // A family that ends without a duplex keeps no record.
-fn end(decision: Decision) -> Selection
-    ensures { λ r. ⌜ r ≡ record { decision = decision; r1 = replicate 8 0; r2 = replicate 8 0 } ⌝ }
+fn end(decision: Decision) -> Sides
+    ensures { λ r. ⌜ r ≡ record { decision = decision; r1 = 0; r2 = 0 } ⌝ }
 {
-    Selection {
+    Sides {
         decision,
-        r1: [0u64; 8],
-        r2: [0u64; 8],
+        r1: 0,
+        r2: 0,
     }
 }
 
@@ -52,19 +48,12 @@ fn is_kept(decision: Decision) -> bool
     }
 }
 
-// The marks of the sides' records where the family is kept.
-fn conclude(decision: Decision, r1: &[usize], r2: &[usize], n: usize) -> Selection
-    requires { ⌜ Below (now r1) n ⌝ }
-    requires { ⌜ Below (now r2) n ⌝ }
-    requires { ⌜ n ≤ 512 ⌝ }
-    ensures { λ r. ⌜ r ≡ answerOf n (concluded decision (now (r1 .entry)) (now (r2 .entry)) []) ⌝ }
+// The records of the sides stay where the family is kept.
+fn conclude(decision: Decision, r1: usize, r2: usize) -> Sides
+    ensures { λ r. ⌜ r ≡ record { decision = decision; r1 = cond (isKept decision) r1 0; r2 = cond (isKept decision) r2 0 } ⌝ }
 {
     if is_kept(decision) {
-        return Selection {
-            decision,
-            r1: mark_words(r1, n),
-            r2: mark_words(r2, n),
-        };
+        return Sides { decision, r1, r2 };
     }
     end(decision)
 }
@@ -85,37 +74,6 @@ fn has_too_few_reads(options: Options, r1: usize, r2: usize) -> bool
     false
 }
 
-// Steps 6 and 7.
-fn from_window(
-    flags: &[u16],
-    clipped: &[u32],
-    positions: &[u32],
-    starts: &[u32],
-    counts: &[u32],
-    ops: &[u32],
-    options: Options,
-    r1: &[usize],
-    r2: &[usize],
-) -> Selection
-    requires { ⌜ Formed (alignments (now flags) (now clipped) (now positions) (now starts) (now counts) (now ops)) (now r1) ⌝ }
-    requires { ⌜ Formed (alignments (now flags) (now clipped) (now positions) (now starts) (now counts) (now ops)) (now r2) ⌝ }
-    requires { ⌜ (options .«min_duplex_length» < 2 ^ 31) × (length (now flags) ≤ 512) ⌝ }
-    ensures { λ r. ⌜ r ≡ answerOf (length (now (flags .entry))) (fromWindow options (alignments (now (flags .entry)) (now (clipped .entry)) (now (positions .entry)) (now (starts .entry)) (now (counts .entry)) (now (ops .entry))) (now (r1 .entry)) (now (r2 .entry)) []) ⌝ }
-{
-    let decision = overlap_of_sides(
-        flags,
-        clipped,
-        positions,
-        starts,
-        counts,
-        ops,
-        options,
-        r1,
-        r2,
-    );
-    conclude(decision, r1, r2, flags.len())
-}
-
 // The end of step 4, and steps 5 to 7, of the sides in the first places of two columns.
 fn from_cap(
     flags: &[u16],
@@ -131,19 +89,21 @@ fn from_cap(
     r2: &mut [usize],
     n2: usize,
     fates: &mut [u8],
-) -> Selection
+) -> Sides
     requires { ⌜ Sided (alignments (now flags) (now clipped) (now positions) (now starts) (now counts) (now ops)) (now ranks) (now fates) (now r1) n1 ⌝ }
     requires { ⌜ Sided (alignments (now flags) (now clipped) (now positions) (now starts) (now counts) (now ops)) (now ranks) (now fates) (now r2) n2 ⌝ }
-    requires { ⌜ (options .«min_duplex_length» < 2 ^ 31) × (length (now flags) ≤ 512) ⌝ }
-    ensures { λ r. ⌜ r ≡ answerOf (length (now (flags .entry))) (fromCap options (now (ranks .entry)) (alignments (now (flags .entry)) (now (clipped .entry)) (now (positions .entry)) (now (starts .entry)) (now (counts .entry)) (now (ops .entry))) (take n1 (now (r1 .entry))) (take n2 (now (r2 .entry))) (now (fates .entry))) ⌝ }
-    ensures { λ _. ⌜ now (fates .exit) ≡ fromCap options (now (ranks .entry)) (alignments (now (flags .entry)) (now (clipped .entry)) (now (positions .entry)) (now (starts .entry)) (now (counts .entry)) (now (ops .entry))) (take n1 (now (r1 .entry))) (take n2 (now (r2 .entry))) (now (fates .entry)) .fates ⌝ }
+    requires { ⌜ options .«min_duplex_length» < 2 ^ 31 ⌝ }
+    ensures { λ r. ⌜
+        OutcomeIn (fromCap options (now (ranks .entry)) (alignments (now (flags .entry)) (now (clipped .entry)) (now (positions .entry)) (now (starts .entry)) (now (counts .entry)) (now (ops .entry))) (take n1 (now (r1 .entry))) (take n2 (now (r2 .entry))) (now (fates .entry)))
+        r (now (fates .exit)) (now (r1 .exit)) (now (r2 .exit))
+        ⌝ }
 {
     if has_too_few_reads(options, n1, n2) {
         return end(Decision::Rejected(RejectionReason::InsufficientReads));
     }
     let m1 = keep_lowest_ranking(options, ranks, r1, n1, fates);
     let m2 = keep_lowest_ranking(options, ranks, r2, n2, fates);
-    from_window(
+    let decision = overlap_of_sides(
         flags,
         clipped,
         positions,
@@ -153,7 +113,8 @@ fn from_cap(
         options,
         &r1[..m1],
         &r2[..m2],
-    )
+    );
+    conclude(decision, m1, m2)
 }
 
 // Steps 3 to 7, of the records that step 2 enters.
@@ -169,25 +130,28 @@ fn from_sides(
     ops: &[u32],
     options: Options,
     fates: &mut [u8],
-) -> Selection
+    r1: &mut [usize],
+    r2: &mut [usize],
+) -> Sides
     requires { ⌜ Columns (now flags) (now names) (now verdicts) ⌝ }
     requires { ⌜ EnteredAdmissible (alignments (now flags) (now clipped) (now positions) (now starts) (now counts) (now ops)) (now names) (now verdicts) ⌝ }
     requires { ⌜ (length (now ranks) ≡ length (now flags)) × (length (now fates) ≡ length (now flags)) ⌝ }
     requires { ⌜ (options .«min_duplex_length» < 2 ^ 31) × (length (now flags) ≤ 512) ⌝ }
-    ensures { λ r. ⌜ r ≡ answerOf (length (now (flags .entry))) (fromSides options (now (ranks .entry)) (alignments (now (flags .entry)) (now (clipped .entry)) (now (positions .entry)) (now (starts .entry)) (now (counts .entry)) (now (ops .entry))) (sideR1 (now (flags .entry)) (now (names .entry)) (now (verdicts .entry))) (sideR2 (now (flags .entry)) (now (names .entry)) (now (verdicts .entry))) (now (fates .entry))) ⌝ }
-    ensures { λ _. ⌜ now (fates .exit) ≡ fromSides options (now (ranks .entry)) (alignments (now (flags .entry)) (now (clipped .entry)) (now (positions .entry)) (now (starts .entry)) (now (counts .entry)) (now (ops .entry))) (sideR1 (now (flags .entry)) (now (names .entry)) (now (verdicts .entry))) (sideR2 (now (flags .entry)) (now (names .entry)) (now (verdicts .entry))) (now (fates .entry)) .fates ⌝ }
+    requires { ⌜ (256 ≤ length (now r1)) × (256 ≤ length (now r2)) ⌝ }
+    ensures { λ r. ⌜
+        OutcomeIn (fromSides options (now (ranks .entry)) (alignments (now (flags .entry)) (now (clipped .entry)) (now (positions .entry)) (now (starts .entry)) (now (counts .entry)) (now (ops .entry))) (sideR1 (now (flags .entry)) (now (names .entry)) (now (verdicts .entry))) (sideR2 (now (flags .entry)) (now (names .entry)) (now (verdicts .entry))) (now (fates .entry)))
+        r (now (fates .exit)) (now (r1 .exit)) (now (r2 .exit))
+        ⌝ }
 {
-    let mut r1 = [0usize; 256];
-    let mut r2 = [0usize; 256];
-    let pairs = write_sides(flags, names, verdicts, &mut r1, &mut r2);
+    let pairs = write_sides(flags, names, verdicts, r1, r2);
     if pairs == 0 {
         return end(Decision::Empty);
     }
     if (pairs as u64) < options.min_reads_per_strand {
         return end(Decision::Rejected(RejectionReason::InsufficientReads));
     }
-    let n1 = keep_group(ops, clipped, starts, counts, flags, &mut r1, pairs, fates);
-    let n2 = keep_group(ops, clipped, starts, counts, flags, &mut r2, pairs, fates);
+    let n1 = keep_group(ops, clipped, starts, counts, flags, r1, pairs, fates);
+    let n2 = keep_group(ops, clipped, starts, counts, flags, r2, pairs, fates);
     from_cap(
         flags,
         ranks,
@@ -197,9 +161,9 @@ fn from_sides(
         counts,
         ops,
         options,
-        &mut r1,
+        r1,
         n1,
-        &mut r2,
+        r2,
         n2,
         fates,
     )
@@ -219,12 +183,17 @@ pub fn select_columns(
     ops: &[u32],
     options: Options,
     fates: &mut [u8],
-) -> Selection
+    r1: &mut [usize],
+    r2: &mut [usize],
+) -> Sides
     requires { ⌜ Columns (now flags) (now names) (now verdicts) ⌝ }
     requires { ⌜ Alike (now fates) (now clipped) (now positions) (now starts) (now counts) ⌝ }
     requires { ⌜ (length (now ranks) ≡ length (now flags)) × (length (now fates) ≡ length (now flags)) × (length (now flags) ≤ 512) ⌝ }
-    ensures { λ r. ⌜ r ≡ answerOf (length (now (flags .entry))) (selected options records (now (names .entry)) (now (verdicts .entry)) (now (ranks .entry)) (alignments (now (flags .entry)) (now (clipped .entry)) (now (positions .entry)) (now (starts .entry)) (now (counts .entry)) (now (ops .entry)))) ⌝ }
-    ensures { λ _. ⌜ now (fates .exit) ≡ selected options records (now (names .entry)) (now (verdicts .entry)) (now (ranks .entry)) (alignments (now (flags .entry)) (now (clipped .entry)) (now (positions .entry)) (now (starts .entry)) (now (counts .entry)) (now (ops .entry))) .fates ⌝ }
+    requires { ⌜ (256 ≤ length (now r1)) × (256 ≤ length (now r2)) ⌝ }
+    ensures { λ r. ⌜
+        OutcomeIn (selected options records (now (names .entry)) (now (verdicts .entry)) (now (ranks .entry)) (alignments (now (flags .entry)) (now (clipped .entry)) (now (positions .entry)) (now (starts .entry)) (now (counts .entry)) (now (ops .entry))))
+        r (now (fates .exit)) (now (r1 .exit)) (now (r2 .exit))
+        ⌝ }
 {
     write_fates(flags, names, verdicts, fates);
     let minimum = options.min_duplex_length;
@@ -253,5 +222,7 @@ pub fn select_columns(
         ops,
         options,
         fates,
+        r1,
+        r2,
     )
 }

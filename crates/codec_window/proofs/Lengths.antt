@@ -1,9 +1,9 @@
 -- Laws of the length and of a pair that is kept.
-use mathlib.Core.Bool.{Bool, true, false, cond, true≢false}
+use mathlib.Core.Bool.{Bool, true, false, cond}
 use mathlib.Core.Path.{_≡_, refl, sym, _∙_}
-use Prim.Native.Nat.{ℕ, zero, suc, _+_, _-_, _≤_, _<_}
+use Prim.Native.Nat.{ℕ, _+_, _-_, _≤_, _<_}
 use native.Mathlib.Omega.{arith}
-use borrow.Author.Tests.{ltb-true, ltb-false, le-ltb}
+use borrow.Author.Tests.{ltb-true, ltb-false}
 use lib.Dec.{ltb}
 use Rattle.raw_bam.specs.Cigar.{referenceLength}
 use Rattle.raw_bam.specs.ReadPosition.{readPosition}
@@ -12,7 +12,7 @@ use Rattle.raw_bam.specs.declared.read_pos.ReadPos.the-variants.{Base, NoBase}
 use Rattle.raw_bam.proofs.Positions.{position-within, position-before, position-past}
 use Rattle.caller.specs.declared.reason.RejectionReason.{RejectionReason}
 use Rattle.caller.specs.declared.reason.RejectionReason.the-variants.{InsufficientOverlap}
-use Rattle.codec_window.specs.Window.{Alignment, Admitted, span, spanOf, trueWindow, belowMinimum, inPhase, lengthFrom, consensusLength, lengthIn, reasonWithoutLength, keptOr, overlapIn, overlap}
+use Rattle.codec_window.specs.Window.{Alignment, Admitted, spanOf, trueWindow, belowMinimum, inPhase, lengthFrom, consensusLength, lengthIn, reasonWithoutLength, keptOr, overlapIn, overlap}
 use Rattle.codec_window.specs.declared.window.ConsensusLength.{ConsensusLength}
 use Rattle.codec_window.specs.declared.window.ConsensusLength.the-variants.{Bases, NoLength}
 use Rattle.codec_window.specs.declared.window.Overlap.the-variants.{Kept, Rejected}
@@ -66,11 +66,6 @@ measured positive negative h k last n e = from (readPosition false (positive .op
     from (Base p) NoBase a b l = absurd (no-length l)
     from NoBase q a b l = absurd (no-length l)
 
--- a window that is not empty has a length of 1 or more
-nonempty-reaches : (first last : ℕ) → first ≤ last → belowMinimum (span first last) 1 ≡ false
-nonempty-reaches zero last h = le-ltb (last + 0 + 1) 1 (omega arith)
-nonempty-reaches (suc first) last h = rw (le-ltb last (suc first) h) (le-ltb (last - suc first + 1) 1 (omega arith))
-
 -- what is kept has a length
 kept-from : (below : Bool) (window : Span) (length : ConsensusLength) (reason : RejectionReason) (first last n : ℕ)
     → cond below (Rejected InsufficientOverlap) (keptOr window length reason) ≡ Kept first last n
@@ -91,23 +86,6 @@ module _ (r1 r2 : Alignment) (h : Admitted r1) (k : Admitted r2) where
       by false true e = measured r1 r2 h k (window .end) n e
       by negative false e = absurd (no-length e)
 
-  -- a window whose end both alignments cover is not empty
-  covered-nonempty : (r1Negative legacy : Bool) (last : ℕ) → Covers r1 last → Covers r2 last → asked r1 r2 r1Negative legacy .start ≤ last
-  unfolding spanOf
-  covered-nonempty r1Negative false last c d = omega arith
-  covered-nonempty true true last c d = omega arith
-  covered-nonempty false true last c d = omega arith
-
-  -- a window of length 0 or below has no length
-  pub no-length-below-one : (r1Negative legacy : Bool) → belowMinimum (asked r1 r2 r1Negative legacy) 1 ≡ true → lengthIn r1 r2 r1Negative (asked r1 r2 r1Negative legacy) ≡ NoLength
-  no-length-below-one r1Negative legacy below = by (lengthIn r1 r2 r1Negative (asked r1 r2 r1Negative legacy)) refl
-    where
-      by : (length : ConsensusLength) → lengthIn r1 r2 r1Negative (asked r1 r2 r1Negative legacy) ≡ length → length ≡ NoLength
-      by NoLength e = refl
-      by (Bases n) e =
-          let m = length-measured r1Negative (asked r1 r2 r1Negative legacy) n e in
-          absurd (true≢false (sym below ∙ nonempty-reaches _ _ (covered-nonempty r1Negative legacy _ (m .first) (m .second))))
-
   module _ (r1Negative legacy : Bool) (minimum first last n : ℕ) (kept : overlap r1 r2 r1Negative legacy minimum ≡ Kept first last n) where
     -- a pair is kept with the window that is asked for, and its length there
     pub kept-window : (asked r1 r2 r1Negative legacy .start ≡ first) × (asked r1 r2 r1Negative legacy .end ≡ last) × (lengthIn r1 r2 r1Negative (asked r1 r2 r1Negative legacy) ≡ Bases n)
@@ -118,16 +96,3 @@ module _ (r1 r2 : Alignment) (h : Admitted r1) (k : Admitted r2) where
 
     pub kept-measured : Measured r1 r2 last n
     kept-measured = rw (kept-window .1) at (length-measured r1Negative (asked r1 r2 r1Negative legacy) n (kept-window .2))
-
-    -- the window is not empty
-    pub kept-nonempty : first ≤ last
-    kept-nonempty = rw (kept-window .0) at (covered-nonempty r1Negative legacy last (kept-measured .first) (kept-measured .second))
-
-  -- the true window's start lies in both alignments too
-  pub kept-start : (r1Negative : Bool) (minimum first last n : ℕ) → overlap r1 r2 r1Negative false minimum ≡ Kept first last n → Covers r1 first × Covers r2 first
-  unfolding spanOf
-  kept-start r1Negative minimum first last n kept =
-      let start = kept-window r1Negative false minimum first last n kept .0 in
-      let nonempty = kept-nonempty r1Negative false minimum first last n kept in
-      let m = kept-measured r1Negative false minimum first last n kept in
-      (omega arith, omega arith)

@@ -1,7 +1,9 @@
 pub mod Cases
 pub mod Count
+pub mod Counted
 pub mod Every
 pub mod Map
+pub mod Member
 pub mod Numbers
 pub mod Parts
 pub mod Places

@@ -1,11 +1,11 @@
 -- Laws of a list whose elements are mapped.
 use mathlib.Core.List.{List, [], _∷_, _++_, map, map-append}
-use mathlib.Core.Path.{_≡_, refl, subst}
+use mathlib.Core.Path.{_≡_, refl, subst, ap}
 use Prim.Native.Nat.{ℕ, zero, suc, _+_, _≤_, _<_}
 use native.Mathlib.Nat.{le-of-suc-le-suc, not-suc-le-zero}
 use native.Mathlib.Numerals.{add-one}
 use native.Mathlib.Omega.{arith}
-use lib.ListN.{length, getD, set, take, length-map}
+use lib.ListN.{length, getD, set, take, drop, length-map}
 use lib.Seq.{take-suc, length-take-le}
 use Rattle.lists.specs.Written.{written}
 use Rattle.lists.proofs.Written.{written-more, length-written}
@@ -15,6 +15,16 @@ module _ {A B : Type 0} (f : A → B) where
   getD-map-within [] k d e h = absurd (not-suc-le-zero h)
   getD-map-within (x ∷ xs) zero d e h = refl
   getD-map-within (x ∷ xs) (suc k) d e h = getD-map-within xs k d e (le-of-suc-le-suc h)
+
+  pub map-take : (n : ℕ) (xs : List A) → map f (take n xs) ≡ take n (map f xs)
+  map-take zero xs = refl
+  map-take (suc n) [] = refl
+  map-take (suc n) (x ∷ xs) = ap (λ (ys : List B). f x ∷ ys) (map-take n xs)
+
+  pub map-drop : (n : ℕ) (xs : List A) → map f (drop n xs) ≡ drop n (map f xs)
+  map-drop zero xs = refl
+  map-drop (suc n) [] = refl
+  map-drop (suc n) (x ∷ xs) = map-drop n xs
 
   -- a column that the mapped elements are written to, one more a turn
   pub written-map-more : (xs : List A) (a : A) (old : List B) → length xs < length old → set (written (map f xs) old) (length xs) (f a) ≡ written (map f (xs ++ (a ∷ []))) old

@@ -66,3 +66,9 @@ set-tabulate f g n i a h here others =
     by-place : (k : ℕ) → k < n → Dec (k ≡ i) → getD (set (tabulate f n) i a) k a ≡ getD (tabulate g n) k a
     by-place k room (yes e) = rw e (getD-set-same (tabulate f n) i a a (rw (length-tabulate f n) h) ∙ sym (getD-tabulate g n i a h ∙ here))
     by-place k room (no differ) = getD-set-other (tabulate f n) i k a a differ ∙ getD-tabulate f n k a room ∙ sym (getD-tabulate g n k a room ∙ others k differ)
+
+-- two rules that agree below n
+pub tabulate-same : {A : Type 0} (f g : ℕ → A) (n : ℕ) → ((i : ℕ) → i < n → f i ≡ g i) → tabulate f n ≡ tabulate g n
+unfolding tabulate
+tabulate-same f g zero same = refl
+tabulate-same f g (suc n) same = rw (tabulate-same f g n (λ i h. same i (omega arith)), same n (omega arith))

@@ -9,7 +9,6 @@ use borrow.Author.Tests.{eqb-true, eqb-false, eq-eqb, ne-eqb}
 use lib.Dec.{eqb}
 use lib.ListN.{length, length-map, length-reverse}
 use Rattle.lists.specs.Total.{total}
-use Rattle.lists.proofs.Total.{total-reverse}
 use Rattle.raw_bam.specs.Cigar.{opLength, opCode}
 use Rattle.raw_bam.specs.Simplified.{kindOf, simpleEntry, join, prepend, joined, simplified}
 
@@ -109,7 +108,8 @@ total-joined (x ∷ xs) = put (joined xs) ∙ ap (λ (n : ℕ). opLength x + n) 
     put [] = refl
     put (y ∷ ys) = by-kind y ys (eqb (opCode x) (opCode y))
 
-length-joined : (xs : List ℕ) → length (joined xs) ≤ length xs
+-- a joined list is no longer than the list
+pub length-joined : (xs : List ℕ) → length (joined xs) ≤ length xs
 unfolding joined prepend
 length-joined [] = zero-le
 length-joined (x ∷ xs) = put (joined xs) (length-joined xs)
@@ -127,14 +127,3 @@ pub length-simplified : (isReverse : Bool) (ops : List ℕ) → length (simplifi
 unfolding simplified
 length-simplified true ops = rw (length-reverse (joined (map simpleEntry ops)), ← length-map ops simpleEntry) (length-joined (map simpleEntry ops))
 length-simplified false ops = rw (← length-map ops simpleEntry) (length-joined (map simpleEntry ops))
-
-total-simple : (words : List ℕ) → total opLength (map simpleEntry words) ≡ total opLength words
-unfolding total simpleEntry
-total-simple [] = refl
-total-simple (word ∷ words) = omega (arith, total-simple words, kind-le (opCode word))
-
--- simplifying keeps the lengths
-pub total-simplified : (isReverse : Bool) (ops : List ℕ) → total opLength (simplified isReverse ops) ≡ total opLength ops
-unfolding simplified
-total-simplified true ops = rw (total-reverse, total-joined) (total-simple ops)
-total-simplified false ops = rw total-joined (total-simple ops)

@@ -1,12 +1,12 @@
 -- Laws of the read position.
-use mathlib.Core.Bool.{Bool, true, false, true≢false}
+use mathlib.Core.Bool.{Bool, true}
 use mathlib.Core.List.{List, [], _∷_, _++_, append-assoc}
 use mathlib.Core.Path.{_≡_, refl, sym, _∙_, ap}
 use Prim.Native.Nat.{ℕ, _+_, _-_, _≤_, _<_}
 use native.Mathlib.Nat.{zero-add, add-assoc}
 use native.Mathlib.Numerals.{add-one}
 use native.Mathlib.Omega.{arith}
-use borrow.Author.Tests.{ltb-true, ltb-false, lt-ltb, le-ltb}
+use borrow.Author.Tests.{ltb-true, lt-ltb, le-ltb}
 use lib.Dec.{ltb}
 use lib.ListN.{length, take, drop, getD}
 use lib.Seq.{take-suc, drop-cons}
@@ -15,7 +15,7 @@ use Rattle.lists.proofs.Cases.{cond-cases, both-true}
 use Rattle.lists.proofs.Total.{total-append}
 use Rattle.raw_bam.specs.Cigar.{opLength, opCode, readBases, readLength, referenceBases, referenceLength}
 use Rattle.raw_bam.specs.Operations.{consumesRead, consumesReference}
-use Rattle.raw_bam.specs.ReadPosition.{isAligned, shifted, orElse, lastOf, lastAligned, inside, positionAt, readPosition, isSkipped}
+use Rattle.raw_bam.specs.ReadPosition.{isAligned, shifted, orElse, lastOf, lastAligned, inside, positionAt, readPosition}
 use Rattle.raw_bam.specs.declared.read_pos.ReadPos.{ReadPos}
 use Rattle.raw_bam.specs.declared.read_pos.ReadPos.the-variants.{Base, NoBase}
 
@@ -91,22 +91,6 @@ positionAt-beyond askLast before (word ∷ words) k h =
     (λ here. absurd (omega (arith, ltb-true k (referenceBases word) here)))
     (λ _. positionAt-beyond askLast (before ++ (word ∷ [])) words (k - referenceBases word) (omega arith))
 
-positionAt-base : (askLast : Bool) (before words : List ℕ) (k : ℕ) → k < referenceLength words → isSkipped words k ≡ false → (p : ℕ) × (positionAt askLast before words k ≡ Base p)
-unfolding positionAt isSkipped total
-positionAt-base askLast before [] k h e = absurd (omega arith)
-positionAt-base askLast before (word ∷ words) k h e =
-    cond-cases (λ r. (p : ℕ) × (r ≡ Base p)) (ltb k (referenceBases word))
-    (λ here. cond-cases (λ r. (p : ℕ) × (r ≡ Base p)) (isAligned word) (λ _. (_, refl)) (λ skipped. absurd (true≢false (rw (here, skipped) at e))))
-    (λ past. positionAt-base askLast (before ++ (word ∷ [])) words (k - referenceBases word) (omega (arith, ltb-false k (referenceBases word) past)) (rw past at e))
-
-positionAt-last : (before words : List ℕ) (k p : ℕ) → positionAt false before words k ≡ Base p → positionAt true before words k ≡ Base p
-unfolding positionAt
-positionAt-last before [] k p e = e
-positionAt-last before (word ∷ words) k p e =
-    cond-cases (λ r. r ≡ Base p) (ltb k (referenceBases word))
-    (λ here. cond-cases (λ r. r ≡ Base p) (isAligned word) (λ aligned. rw (here, aligned) at e) (λ skipped. let none : NoBase ≡ Base p = rw (here, skipped) at e in cc))
-    (λ past. positionAt-last (before ++ (word ∷ [])) words (k - referenceBases word) p (rw past at e))
-
 module _ (askLast : Bool) (ops : List ℕ) (start position : ℕ) where
   -- a read position lies from 1 to the read length
   pub position-within : (p : ℕ) → readPosition askLast ops start position ≡ Base p → (1 ≤ p) × (p ≤ readLength ops)
@@ -124,17 +108,3 @@ module _ (askLast : Bool) (ops : List ℕ) (start position : ℕ) where
   pub position-past : start + referenceLength ops ≤ position → readPosition askLast ops start position ≡ NoBase
   unfolding readPosition
   position-past h = rw (le-ltb position start (omega arith)) (positionAt-beyond askLast [] ops (position - start) (omega arith))
-
-  -- there is one inside the reference span and outside D and N
-  pub position-in-span : start ≤ position → position < start + referenceLength ops → isSkipped ops (position - start) ≡ false
-      → (p : ℕ) × (readPosition askLast ops start position ≡ Base p)
-  unfolding readPosition
-  position-in-span h l e = rw (le-ltb position start h) (positionAt-base askLast [] ops (position - start) (omega arith) e)
-
--- to ask for the last base changes no base
-pub position-last : (ops : List ℕ) (start position p : ℕ) → readPosition false ops start position ≡ Base p → readPosition true ops start position ≡ Base p
-unfolding readPosition
-position-last ops start position p e =
-    cond-cases (λ r. r ≡ Base p) (ltb position start)
-    (λ outside. let none : NoBase ≡ Base p = rw outside at e in cc)
-    (λ inside. positionAt-last [] ops (position - start) p (rw inside at e))

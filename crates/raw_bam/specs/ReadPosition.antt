@@ -1,5 +1,5 @@
 -- Document 01, 'CIGAR operations', Read position of a reference position: from 1, counting I and S bases too.
-use mathlib.Core.Bool.{Bool, true, false, cond}
+use mathlib.Core.Bool.{Bool, false, cond}
 use mathlib.Core.List.{List, [], _∷_, _++_}
 use Prim.Native.Nat.{ℕ, _+_, _-_}
 use lib.Dec.{ltb}
@@ -46,8 +46,3 @@ positionAt askLast before (word ∷ words) k =
 -- of a record that starts at a reference position
 unfoldable pub readPosition : Bool → List ℕ → ℕ → ℕ → ReadPos
 readPosition askLast ops start position = cond (ltb position start) NoBase (positionAt askLast [] ops (position - start))
-
--- the reference base k, from 0, of the operations lies inside D or N
-unfoldable pub isSkipped : List ℕ → ℕ → Bool
-isSkipped [] k = false
-isSkipped (word ∷ words) k = cond (ltb k (referenceBases word)) (cond (isAligned word) false true) (isSkipped words (k - referenceBases word))

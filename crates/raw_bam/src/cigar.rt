@@ -4,7 +4,7 @@ ghost use mathlib.Core.Bool.{cond};
 ghost use mathlib.Core.Path.{_≡_};
 ghost use Prim.Native.Nat.{_≤_, _<_, _^_};
 ghost use lib.ListN.{length};
-ghost use Rattle.raw_bam.specs.Cigar.{opLength, readBases, referenceBases, readLength, referenceLength};
+ghost use Rattle.raw_bam.specs.Cigar.{opLength, isOperation, readBases, referenceBases, readLength, referenceLength};
 
 // The bases that one operation, or a list of them, consumes.
 pub struct Bases {
@@ -16,6 +16,16 @@ pub fn op_length(word: u32) -> u64
     ensures { λ r. ⌜ r ≡ opLength word ⌝ }
 {
     (word / 16) as u64
+}
+
+// Its code is one of the nine, and its length is not 0.
+pub fn is_operation(word: u32) -> bool
+    ensures { λ r. ⌜ r ≡ isOperation word ⌝ }
+{
+    if 8 < word % 16 {
+        return false;
+    }
+    0 < word / 16
 }
 
 fn if_consumed(consumed: bool, length: u64) -> u64

@@ -10,7 +10,7 @@ use lib.Seq.{drop-cons}
 use Rattle.raw_bam.specs.Prefix.{isPrefix}
 use Rattle.raw_bam.proofs.Prefixes.{prefix-self}
 use Rattle.vanilla_caller.specs.Founding.{fitsFirst, matches, founded, groupAt}
-use Rattle.vanilla_caller.specs.Group.{Group, join, fitsAny, enter, entered}
+use Rattle.vanilla_caller.specs.Group.{Group, join, fitsAny, joinOrFound, groupsAfter}
 
 module _ (lists : ℕ → List ℕ) where
   abbrev first-of : Group → List ℕ
@@ -75,13 +75,13 @@ module _ (lists : ℕ → List ℕ) where
   map-grown-nil (g ∷ groups) = ap₂ {C = List Group} (λ h hs. h ∷ hs) (λ k. record { first = g .first; members = sym (append-nil (g .members)) k }) (map-grown-nil groups)
 
   -- the rule's groups are those that were there, grown, and those that the records found
-  entered-founded : (is : List ℕ) (groups : List Group) → entered lists is groups ≡ map (grown is) groups ++ founded lists is (map first-of groups)
-  unfolding enter entered founded grown
-  entered-founded [] groups = map-grown-nil groups
-  entered-founded (i ∷ is) groups = by-fit (fitsAny (lists i) groups) refl (entered-founded is)
+  after-founded : (is : List ℕ) (groups : List Group) → groupsAfter lists is groups ≡ map (grown is) groups ++ founded lists is (map first-of groups)
+  unfolding joinOrFound groupsAfter founded grown
+  after-founded [] groups = map-grown-nil groups
+  after-founded (i ∷ is) groups = by-fit (fitsAny (lists i) groups) refl (after-founded is)
     where
-      by-fit : (b : Bool) → fitsAny (lists i) groups ≡ b → ((gs : List Group) → entered lists is gs ≡ map (grown is) gs ++ founded lists is (map first-of gs))
-          → entered lists is (enter (lists i) i groups) ≡ map (grown (i ∷ is)) groups ++ founded lists (i ∷ is) (map first-of groups)
+      by-fit : (b : Bool) → fitsAny (lists i) groups ≡ b → ((gs : List Group) → groupsAfter lists is gs ≡ map (grown is) gs ++ founded lists is (map first-of gs))
+          → groupsAfter lists is (joinOrFound (lists i) i groups) ≡ map (grown (i ∷ is)) groups ++ founded lists (i ∷ is) (map first-of groups)
       by-fit true p rest =
           rw (p, ← fits-first (lists i) groups, p, join-one i groups, rest (map (one i) groups), map-grown-one i is groups, first-one i groups)
       by-fit false p rest =
@@ -90,8 +90,8 @@ module _ (lists : ℕ → List ℕ) where
           rw (p, none, rest (groups ++ (new ∷ [])), map-append, map-append, ← map-grown-none i is groups none)
           (append-assoc (map (grown is) groups) (grown is new ∷ []) (founded lists is (map first-of groups ++ (lists i ∷ []))))
 
-  pub entered-all : (is : List ℕ) → entered lists is [] ≡ founded lists is []
-  entered-all is = entered-founded is []
+  pub groups-founded : (is : List ℕ) → groupsAfter lists is [] ≡ founded lists is []
+  groups-founded is = after-founded is []
 
   -- the matches from a place on
   pub matches-step : (first order : List ℕ) (j : ℕ) → j < length order

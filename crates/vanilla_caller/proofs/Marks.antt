@@ -1,16 +1,13 @@
 -- Columns of flags that are marked one place after the other.
 use mathlib.Core.Bool.{Bool, true, false, cond}
-use mathlib.Core.List.{List, [], _∷_, _++_}
+use mathlib.Core.List.{List}
 use mathlib.Core.Logic.{⊎-elim}
-use mathlib.Core.Path.{_≡_, refl, sym, _∙_, ap, subst}
+use mathlib.Core.Path.{_≡_, refl, sym, _∙_, subst}
 use Prim.Native.Nat.{ℕ, _+_, _≤_, _<_}
 use native.Mathlib.Nat.{eq-or-lt-of-le}
 use native.Mathlib.Omega.{arith}
-use borrow.Author.Tests.{eq-eqb, ne-eqb}
-use lib.Dec.{eqb}
 use lib.ListN.{length, getD, set}
 use lib.Seq.{getD-set-same, getD-set-other}
-use Rattle.vanilla_caller.specs.Group.{isIn}
 
 -- from place k on, where a test holds
 module _ (test : ℕ → Bool) (old : List Bool) (k : ℕ) where
@@ -39,18 +36,3 @@ module _ (test : ℕ → Bool) (old : List Bool) (k : ℕ) where
     up-to (λ i. getD now i false ≡ cond (test i) true (getD old i false)) j (marked .0) (marked .1 j (omega arith) ∙ rw fails),
     λ i low. marked .1 i (omega arith),
   )
-
--- the members with one more
-pub isIn-here : (i : ℕ) (js : List ℕ) → isIn i (js ++ (i ∷ [])) ≡ true
-unfolding isIn
-isIn-here i [] = rw (eq-eqb i i refl)
-isIn-here i (j ∷ js) = rw (isIn-here i js) (either (eqb i j))
-  where
-    either : (b : Bool) → cond b true true ≡ true
-    either true = refl
-    either false = refl
-
-pub isIn-other : (k i : ℕ) (js : List ℕ) → (k ≡ i → ⊥) → isIn k (js ++ (i ∷ [])) ≡ isIn k js
-unfolding isIn
-isIn-other k i [] differ = rw (ne-eqb k i differ)
-isIn-other k i (j ∷ js) differ = ap (cond (eqb k j) true) (isIn-other k i js differ)

@@ -11,9 +11,10 @@ use lib.ListN.{length, getD}
 use Rattle.lists.proofs.Cases.{cond-cases}
 use Rattle.lists.proofs.Tabulate.{length-tabulate, getD-tabulate}
 use Rattle.vanilla_caller.specs.Founding.{fitsFirst, matches, founded}
-use Rattle.vanilla_caller.specs.Group.{Group, beats, winner, noGroup, mostCommon, isIn, staying}
+use Rattle.lists.specs.Member.{isIn}
+use Rattle.vanilla_caller.specs.Group.{Group, beats, winner, noGroup, mostCommon, staying}
 use Rattle.vanilla_caller.specs.Order.{byLength}
-use Rattle.vanilla_caller.proofs.Groups.{entered-all}
+use Rattle.vanilla_caller.proofs.Groups.{groups-founded}
 use Rattle.vanilla_caller.proofs.Orders.{length-byLength, byLength-below}
 
 pub length-staying : (lengths : List ℕ) (lists : ℕ → List ℕ) → length (staying lengths lists) ≡ length lengths
@@ -63,4 +64,4 @@ some-staying lengths lists some =
     let member = some-member lists n order (rw size some) (λ k h. byLength-below lengths n k (rw size at h)) in
     cond-cases (λ (stays : List Bool). (i : ℕ) × (i < n) × (getD stays i false ≡ true)) (ltb n 2)
     (λ _. (0, some, getD-tabulate (λ _. true) n 0 false some))
-    (λ _. rw (entered-all lists order) (member .0, member .1, getD-tabulate _ n (member .0) false (member .1) ∙ member .2))
+    (λ _. rw (groups-founded lists order) (member .0, member .1, getD-tabulate _ n (member .0) false (member .1) ∙ member .2))

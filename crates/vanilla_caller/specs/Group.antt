@@ -4,6 +4,7 @@ use mathlib.Core.List.{List, [], _∷_, _++_}
 use Prim.Native.Nat.{ℕ}
 use lib.Dec.{ltb, eqb}
 use lib.ListN.{length}
+use Rattle.lists.specs.Member.{isIn}
 use Rattle.lists.specs.Tabulate.{tabulate}
 use Rattle.raw_bam.specs.Prefix.{isPrefix, smaller}
 use Rattle.vanilla_caller.specs.Order.{byLength}
@@ -24,13 +25,13 @@ fitsAny list [] = false
 fitsAny list (g ∷ gs) = cond (isPrefix list (g .first)) true (fitsAny list gs)
 
 -- or else founds one
-unfoldable pub enter : List ℕ → ℕ → List Group → List Group
-enter list i groups = cond (fitsAny list groups) (join list i groups) (groups ++ (record { first = list; members = i ∷ [] } ∷ []))
+unfoldable pub joinOrFound : List ℕ → ℕ → List Group → List Group
+joinOrFound list i groups = cond (fitsAny list groups) (join list i groups) (groups ++ (record { first = list; members = i ∷ [] } ∷ []))
 
--- the groups after records have entered, one after the other
-unfoldable pub entered : (ℕ → List ℕ) → List ℕ → List Group → List Group
-entered lists [] groups = groups
-entered lists (i ∷ is) groups = entered lists is (enter (lists i) i groups)
+-- the groups after each record has joined or founded, one after the other
+unfoldable pub groupsAfter : (ℕ → List ℕ) → List ℕ → List Group → List Group
+groupsAfter lists [] groups = groups
+groupsAfter lists (i ∷ is) groups = groupsAfter lists is (joinOrFound (lists i) i groups)
 
 -- the larger of two groups wins; at a tie that with the smaller first list
 abbrev pub larger : ℕ → List ℕ → ℕ → List ℕ → Bool
@@ -50,11 +51,7 @@ noGroup = record { first = []; members = [] }
 
 -- the group that stays, of the first n records
 unfoldable pub mostCommon : List ℕ → (ℕ → List ℕ) → ℕ → Group
-mostCommon lengths lists n = winner noGroup (entered lists (byLength lengths n) [])
-
-unfoldable pub isIn : ℕ → List ℕ → Bool
-isIn i [] = false
-isIn i (j ∷ js) = cond (eqb i j) true (isIn i js)
+mostCommon lengths lists n = winner noGroup (groupsAfter lists (byLength lengths n) [])
 
 -- for each record whether it stays: of fewer than two, all do
 unfoldable pub staying : List ℕ → (ℕ → List ℕ) → List Bool

@@ -2,12 +2,13 @@
 use mathlib.Core.Bool.{Bool, false}
 use mathlib.Core.List.{List}
 use Prim.Native.Nat.{ℕ, _+_, _≤_, _<_}
-use lib.ListN.{length, getD, take, drop}
+use lib.ListN.{length, getD}
+use Rattle.raw_bam.specs.Cigar.{partOf}
 use Rattle.raw_bam.specs.Simplified.{simplified}
 
 -- the simplified list of record i
 unfoldable pub listOf : List ℕ → List ℕ → List ℕ → List Bool → ℕ → List ℕ
-listOf ops starts counts isReverse i = simplified (getD isReverse i false) (take (getD counts i 0) (drop (getD starts i 0) ops))
+listOf ops starts counts isReverse i = simplified (getD isReverse i false) (partOf ops (getD starts i 0) (getD counts i 0))
 
 -- record i is in the columns, and its operations, at most 64, lie in the slice
 pub record HasRecord (ops starts counts : List ℕ) (isReverse : List Bool) (i : ℕ) : Type 0 where

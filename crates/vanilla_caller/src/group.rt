@@ -12,7 +12,8 @@ ghost use Rattle.lists.specs.Tabulate.{tabulate};
 ghost use Rattle.lists.specs.Written.{written};
 ghost use Rattle.raw_bam.specs.Prefix.{isPrefix};
 ghost use Rattle.vanilla_caller.specs.Founding.{matches, groupAt, founded};
-ghost use Rattle.vanilla_caller.specs.Group.{larger, winner, noGroup, isIn, staying};
+ghost use Rattle.lists.specs.Member.{isIn};
+ghost use Rattle.vanilla_caller.specs.Group.{larger, winner, noGroup, staying};
 ghost use Rattle.vanilla_caller.specs.Side.{Side, Ordered, listOf};
 
 // The record at place k founds a group: it and those after it whose list is a prefix of its own are marked as grouped, and

@@ -8,10 +8,11 @@ use lib.Ieee.{Float}
 use Rattle.lists.specs.Every.{every}
 use Rattle.codec_duplex.specs.Columns.{Strand, strand, lengths, columnsFit}
 use Rattle.codec_duplex.specs.Combining.{outcome}
+use Rattle.codec_duplex.specs.Duplex.{Duplex, duplex, duplexLengths}
 use Rattle.codec_duplex.specs.Limits.{Outcome, refused, outcomeOf, isDuplex}
 use Rattle.codec_duplex.proofs.Laws.{at-most-2048, fitting}
 use Rattle.codec_ffi.specs.Answer.{reported}
-use Rattle.codec_ffi.specs.Bytes.{read, pairLengths, byteOutcome, FilledBytes, CombiningBytes}
+use Rattle.codec_ffi.specs.Bytes.{read, readDuplex, pairLengths, duplexPairLengths, byteOutcome, FilledBytes, CombiningBytes}
 use Rattle.codec_ffi.specs.Words.{even}
 use Rattle.codec_ffi.specs.declared.answer.CombineAnswer.{CombineAnswer}
 use Rattle.codec_ffi.proofs.Laws.{length-words}
@@ -24,7 +25,7 @@ either-fails : {A : Type 0} (e f : Bool) (x y : A) → (e && f) ≡ false → co
 either-fails true f x y h = simp h
 either-fails false f x y h = refl
 
-module _ (a b before : Strand) (count : ℕ) (rate : Float) where
+module _ (a b : Strand) (before : Duplex) (count : ℕ) (rate : Float) where
   module _ (o : Outcome) (same : o ≡ byteOutcome a b before count rate) (r : CombineAnswer) (told : r ≡ reported o) where
     untouched : isDuplex o ≡ false → CombiningBytes a b count rate r before before
     untouched none =
@@ -36,7 +37,7 @@ module _ (a b before : Strand) (count : ℕ) (rate : Float) where
           errors = simp (← same, none);
         }
 
-    filled : isDuplex o ≡ true → (after : Strand) → FilledBytes a b before after → CombiningBytes a b count rate r before after
+    filled : isDuplex o ≡ true → (after : Duplex) → FilledBytes a b before after → CombiningBytes a b count rate r before after
     filled one after columns =
         record {
           answer = told ∙ ap reported same;
@@ -56,17 +57,17 @@ second c =
     let args = c .before .before .before .before .before .before .before .before .before .before .before .before .before .before .args in
     strand (args .b-bases .now) (args .b-quals .now) (args .b-depths .now) (args .b-errors .now)
 
-abbrev lent : tie.After-columns-fit → Strand
+abbrev lent : tie.After-columns-fit → Duplex
 lent c =
     let args = c .before .before .before .before .before .before .before .before .before .before .before .before .before .before .args in
-    strand (args .bases .now) (args .quals .now) (args .depths .now) (args .errors .now)
+    duplex (args .bases .now) (args .quals .now) (args .depths .now) (args .errors .now)
 
 -- the two tests of the lengths
 abbrev Even : tie.After-columns-fit → Bool
-Even c = every even (pairLengths (first c) ++ pairLengths (second c) ++ pairLengths (lent c))
+Even c = every even (pairLengths (first c) ++ pairLengths (second c) ++ duplexPairLengths (lent c))
 
 abbrev Fit : tie.After-columns-fit → Bool
-Fit c = columnsFit (lengths (read (first c)) ++ lengths (read (second c))) (lengths (read (lent c)))
+Fit c = columnsFit (lengths (read (first c)) ++ lengths (read (second c))) (duplexLengths (readDuplex (lent c)))
 
 -- what the code tests
 tested : (c : tie.After-columns-fit) → (c .before .even-lengths .result && c .columns-fit .result) ≡ (Even c && Fit c)
@@ -102,7 +103,7 @@ tally-requires : tie.Need-tally-requires
 tally-requires c κs =
     let a = read (first (c .before)) in
     let b = read (second (c .before)) in
-    let result = read (lent (c .before)) in
+    let result = readDuplex (lent (c .before)) in
     (fitting a b result (fits c .1) .bBases, at-most-2048 a b result (fits c .1))
 
 judge-requires : tie.Need-judge-requires

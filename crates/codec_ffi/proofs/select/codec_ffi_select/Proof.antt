@@ -43,9 +43,11 @@ use denote.Triple.Table.{entered, cited}
 use denote.Triple.Walked.{says, Stays, stay-none, stay-none-slice, walkOf, goes-none, goes-none-slice, Walks, ends-at, walked, walk-meets}
 use denote.Exit.{yes}
 use Rattle.codec_select.specs.Records.{blank}
-use Rattle.codec_select.specs.Selection.{answerOf, outcomeOf}
+use Rattle.codec_select.specs.Marks.{marks, sideFlags}
+use Rattle.codec_select.specs.Selection.{outcomeOf}
 use Rattle.codec_select.specs.declared.options.Options.{Options}
 use Rattle.codec_select.specs.declared.records.Record.{Record}
+use Rattle.codec_select.specs.declared.selection.Selection.{Selection}
 use Rattle.codec_select.proofs.Answering.{selects-many}
 use Rattle.codec_select.proofs.Tables.{table-front}
 use Rattle.codec_select.proofs.options.Options as O
@@ -102,7 +104,9 @@ same-records o ys tbl n ops r h e d = by-number (ltb 512 (length ys)) refl h
     by-number false few all = rw (table-front ys n all e) at d
     by-number true many none =
         let first = take (length ys) tbl in
-        let same = selects-many o (length ys) (ltb-true 512 (length ys) many) first ys ops (answerOf (length first) (outcomeOf o (length ys) first ops)) (record { decision = refl; r1 = refl; r2 = refl }) in
+        let out = outcomeOf o (length ys) first ops in
+        let answer : Selection = record { decision = out .decision; r1 = marks (sideFlags (out .r1) (length first)); r2 = marks (sideFlags (out .r2) (length first)) } in
+        let same = selects-many o (length ys) (ltb-true 512 (length ys) many) first ys ops answer (record { decision = refl; r1 = refl; r2 = refl }) in
         record { decision = d .decision ∙ ap reportedSelection (same .decision); r1 = d .r1 ∙ same .r1; r2 = d .r2 ∙ same .r2 }
 
 module _ {M : Type 1} (𝓤 : URA M) (H : Heap 𝓤) (A : Atoms 𝓤) (mem : Memory → SProp 𝓤) (run : Routine → Fun 𝓤) where

@@ -8,7 +8,8 @@ use borrow.Author.Tests.{not-true, not-false}
 use lib.ListN.{length, drop, drop-of-length-le}
 use lib.Seq.{drop-cons}
 use Rattle.lists.specs.Every.{every}
-use Rattle.codec_pairing.specs.Refusals.{isOperation, badWords}
+use Rattle.raw_bam.specs.Cigar.{isOperation}
+use Rattle.codec_pairing.specs.Refusals.{badWords}
 use Rattle.codec_pairing.proofs.refusal.has_bad_word.Statement.{statement}
 use Rattle.codec_pairing.proofs.refusal.has_bad_word.Tie as tie
 

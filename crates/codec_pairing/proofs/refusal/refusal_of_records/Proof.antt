@@ -2,7 +2,7 @@
 use mathlib.Core.Path.{_≡_, sym, _∙_}
 use borrow.Author.Needs.{needs}
 use Rattle.codec_pairing.specs.declared.refusal.Cause.the-variants.{Part, Words, Bases}
-use Rattle.codec_pairing.specs.declared.refusal.Refusal.the-variants.{NoRefusal}
+use Rattle.caller.specs.declared.refusal.Refusal.the-variants.{NoRefusal}
 use Rattle.codec_pairing.specs.Refusals.{Reads, reads, refusedBy, refusalOfRecords}
 use Rattle.codec_pairing.proofs.refusal.refusal_of_records.Statement.{statement}
 use Rattle.codec_pairing.proofs.refusal.refusal_of_records.Tie as tie

@@ -9,14 +9,14 @@ use borrow.Author.Needs.{needs}
 use Rattle.codec_select.proofs.dropping.drop_others.Statement.{statement}
 use Rattle.codec_select.proofs.dropping.drop_others.Tie as tie
 
-slice-reshare-prefix-mark-dropped : tie.Need-slice-reshare-prefix-mark-dropped
-slice-reshare-prefix-mark-dropped c = search needs
+slice-reshare-prefix-give-fate-to-dropped : tie.Need-slice-reshare-prefix-give-fate-to-dropped
+slice-reshare-prefix-give-fate-to-dropped c = search needs
 
-slice-aggregate-mark-dropped : tie.Need-slice-aggregate-mark-dropped
-slice-aggregate-mark-dropped c = simp length-take (omega arith)
+slice-aggregate-give-fate-to-dropped : tie.Need-slice-aggregate-give-fate-to-dropped
+slice-aggregate-give-fate-to-dropped c = simp length-take (omega arith)
 
-mark-dropped-requires : tie.Need-mark-dropped-requires
-mark-dropped-requires c κs =
+give-fate-to-dropped-requires : tie.Need-give-fate-to-dropped-requires
+give-fate-to-dropped-requires c κs =
     let start = c .before .before .before .before .before in
     (simp length-take (omega (arith, start .pre .0)), start .pre .1)
 
@@ -39,7 +39,7 @@ returns c =
       record { count = done .0 ∙ ap length same; front = take-count (kept side stays) side _ _ (done .0) (done .1) ∙ same },
       (
         ap length (done .1) ∙ length-written (kept side stays) side (length-kept side stays),
-        c .before .before .before .before .before .before .mark-dropped .ensures,
+        c .before .before .before .before .before .before .give-fate-to-dropped .ensures,
       ),
     )
 
@@ -47,9 +47,9 @@ pub drop-others-spec : {M : Type 1} → statement M
 drop-others-spec =
     tie.close
     (tie.spec
-    slice-reshare-prefix-mark-dropped
-    slice-aggregate-mark-dropped
-    mark-dropped-requires
+    slice-reshare-prefix-give-fate-to-dropped
+    slice-aggregate-give-fate-to-dropped
+    give-fate-to-dropped-requires
     keep-staying-requires
     same-length
     same-length-2

@@ -8,15 +8,15 @@ use native.Mathlib.Omega.{arith}
 use borrow.Author.Needs.{needs}
 use lib.ListN.{length, getD, drop, length-set}
 use lib.Seq.{drop-cons, drop-length}
-use Rattle.codec_select.specs.Side.{marked}
-use Rattle.codec_select.proofs.Keeping.{marked-none, marked-more}
+use Rattle.codec_select.specs.Marks.{flagged}
+use Rattle.codec_select.proofs.Words.{flagged-none, flagged-more}
 use Rattle.codec_select.proofs.marks.flag_records.Statement.{statement}
 use Rattle.codec_select.proofs.marks.flag_records.Tie as tie
 
 abbrev Inv-loop : tie.InvT-loop
 Inv-loop side flags₀ k₀ flags k =
     (k ≤ length side)
-    × (marked true (drop k side) flags ≡ marked true side flags₀)
+    × (flagged (drop k side) flags ≡ flagged side flags₀)
     × (length flags ≡ length flags₀)
 
 abbrev μ-loop : tie.MeasureT-loop
@@ -50,7 +50,7 @@ loop-again c =
     let flags = at .loop .flags in
     let next : drop k side ≡ own ∷ drop (k + 1) side = rw (add-one, drop-cons side k 0 (omega arith)) in (
       omega arith,
-      sym (marked-more true own (drop (k + 1) side) flags (omega (arith, start .pre k (omega arith)))) ∙ ap (λ (records : List ℕ). marked true records flags) (sym next) ∙ at .loop .inv .1,
+      sym (flagged-more own (drop (k + 1) side) flags (omega (arith, start .pre k (omega arith)))) ∙ ap (λ (records : List ℕ). flagged records flags) (sym next) ∙ at .loop .inv .1,
       length-set flags own true ∙ at .loop .inv .2,
     )
 
@@ -62,7 +62,7 @@ returns c =
     let at = c .before in
     let side = at .before .args .side .now in
     let end : at .loop .k ≡ length side = omega arith in
-    sym (marked-none true (at .loop .flags)) ∙ rw (end, drop-length side) at (at .loop .inv .1)
+    sym (flagged-none (at .loop .flags)) ∙ rw (end, drop-length side) at (at .loop .inv .1)
 
 pub flag-records-spec : {M : Type 1} → statement M
 flag-records-spec =

@@ -13,10 +13,10 @@ use Rattle.lists.proofs.Tabulate.{length-tabulate, set-tabulate}
 use Rattle.lists.proofs.Written.{length-written, set-written, written-again}
 use Rattle.raw_bam.specs.Prefix.{isPrefix}
 use Rattle.vanilla_caller.specs.Founding.{matches, groupAt}
-use Rattle.vanilla_caller.specs.Group.{isIn}
+use Rattle.lists.specs.Member.{isIn}
 use Rattle.vanilla_caller.specs.Side.{listOf}
 use Rattle.vanilla_caller.proofs.Groups.{matches-step}
-use Rattle.vanilla_caller.proofs.Marks.{isIn-here, isIn-other}
+use Rattle.lists.proofs.Member.{isIn-here, isIn-other}
 use Rattle.vanilla_caller.proofs.group.mark_group.Statement.{statement}
 use Rattle.vanilla_caller.proofs.group.mark_group.Tie as tie
 

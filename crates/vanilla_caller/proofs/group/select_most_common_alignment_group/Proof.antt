@@ -7,7 +7,7 @@ use Rattle.lists.proofs.Written.{take-count}
 use Rattle.vanilla_caller.specs.Group.{mostCommon, staying}
 use Rattle.vanilla_caller.specs.Order.{byLength}
 use Rattle.vanilla_caller.specs.Side.{listOf}
-use Rattle.vanilla_caller.proofs.Groups.{entered-all}
+use Rattle.vanilla_caller.proofs.Groups.{groups-founded}
 use Rattle.vanilla_caller.proofs.Orders.{length-byLength, byLength-below}
 use borrow.Author.Needs.{needs}
 use Rattle.vanilla_caller.proofs.group.select_most_common_alignment_group.Statement.{
@@ -82,7 +82,7 @@ returns-2 c =
     let called = c .before .before .before .before .before .before .before .before in
     let won = rw (sorted called) at (c .before .before .before .before .before .largest-group .ensures .1) in
     let marked = rw (sorted called, length-byLength clipped (length clipped), won) at (c .before .before .mark-group .ensures) in
-    rw (le-ltb (length clipped) 2 (c .before .before .before .before .before .before .before .before .before .before .if1 .left), entered-all lists (byLength clipped (length clipped))) marked
+    rw (le-ltb (length clipped) 2 (c .before .before .before .before .before .before .before .before .before .before .if1 .left), groups-founded lists (byLength clipped (length clipped))) marked
 
 pub select-most-common-alignment-group-spec : {M : Type 1} → statement M
 select-most-common-alignment-group-spec =

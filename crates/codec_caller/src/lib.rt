@@ -1,0 +1,3 @@
+// The family call, `consensus_reads_raw`: a family's records and strands in, its duplex, rejects and ledger out.
+pub mod columns;
+pub mod family;

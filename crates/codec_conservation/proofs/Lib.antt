@@ -1,0 +1,4 @@
+pub mod Conservation
+pub mod Existing
+pub mod NeverTen
+pub mod Taking

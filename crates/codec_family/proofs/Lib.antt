@@ -1,0 +1,5 @@
+pub mod Called
+pub mod Counting
+pub mod Refusing
+pub mod Selected
+pub mod Settled

@@ -1,0 +1,4 @@
+pub mod Counting
+pub mod Listing
+pub mod Marking
+pub mod Settling

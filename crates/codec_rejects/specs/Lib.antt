@@ -1,0 +1,2 @@
+pub mod Fates
+pub mod Handover

@@ -1,0 +1,3 @@
+pub mod Complement
+pub mod Orientation
+pub mod StrandLaws
