@@ -1,4 +1,5 @@
-//! Links the static library of the proved crate, and has it made where it is missing or older than its source.
+//! Links the static library of the proved crate, and has it made where it is missing or older than its source; or links
+//! the one in the folder that `CODEC_FFI_LIB` names, as it is.
 
 use std::path::{Path, PathBuf};
 use std::process::Command;
@@ -10,12 +11,16 @@ const MAKE: &str = "rt staticlib codec_ffi";
 fn main() {
     let here = PathBuf::from(env::var_os("CARGO_MANIFEST_DIR").expect("set by cargo"));
     let root = here.parent().expect("host/ lies in the repository");
-    let folder = root.join("target/staticlib");
+    let named = env::var_os("CODEC_FFI_LIB").map(PathBuf::from);
+    let folder = named.clone().unwrap_or_else(|| root.join("target/staticlib"));
     let archive = folder.join("libcodec_ffi.a");
     let crates = root.join("crates");
+    println!("cargo::rerun-if-env-changed=CODEC_FFI_LIB");
     println!("cargo::rerun-if-changed={}", archive.display());
     println!("cargo::rerun-if-changed={}", crates.display());
-    if changed(&archive).is_none_or(|made| newest(&crates).is_some_and(|source| source > made)) {
+    let old =
+        || newest(&crates).is_some_and(|source| changed(&archive).is_none_or(|made| source > made));
+    if named.is_none() && old() {
         make(root);
     }
     println!("cargo::rustc-link-search=native={}", folder.display());

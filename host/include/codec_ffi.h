@@ -105,4 +105,110 @@ struct codec_ffi_select_answer codec_ffi_select(
     const uint32_t *ops, size_t ops_len,
     struct codec_ffi_options options);
 
+/* The counts of all calls so far, all 0 at first. A call takes a ledger and gives the next one. */
+struct codec_ffi_ledger {
+    uint64_t families;
+    uint64_t records;
+    uint64_t reasons[10]; /* records by reason, that with number n at n - 1 */
+    uint64_t passed_over;
+    uint64_t no_strand;
+    uint64_t used;
+    uint64_t disagreement_rejected; /* families */
+    uint64_t duplexes;
+    uint64_t bases;
+    uint64_t duplex_bases; /* positions that both strands call */
+    uint64_t disagreements;
+};
+
+enum codec_ffi_rates_kind {
+    CODEC_FFI_RATES_FIGURES = 0, /* the rejected records, the rate of disagreements, and that in millionths, rounded down */
+    CODEC_FFI_RATES_REFUSED = 1, /* refusal 10 with 0 */
+};
+
+/* Fields that do not belong to the kind are 0. */
+struct codec_ffi_rates_answer {
+    uint32_t kind;
+    uint32_t number;
+    uint64_t with;
+    uint64_t filtered;
+    double rate;
+    uint64_t millionths;
+};
+
+struct codec_ffi_rates_answer codec_ffi_rates(struct codec_ffi_ledger ledger);
+
+enum codec_ffi_reason {
+    CODEC_FFI_FRAGMENT_READ = 1,
+    CODEC_FFI_NOT_PRIMARY_FR_PAIR = 2,
+    CODEC_FFI_INSUFFICIENT_READS = 3,
+    CODEC_FFI_MINORITY_ALIGNMENT = 4,
+    CODEC_FFI_DOWNSAMPLED = 5,
+    CODEC_FFI_INSUFFICIENT_OVERLAP = 6,
+    CODEC_FFI_INDEL_ERROR_BETWEEN_STRANDS = 7,
+    CODEC_FFI_DOVETAIL = 8,
+    CODEC_FFI_CLIP_OVERLAP_FAILED = 9,
+    CODEC_FFI_HIGH_DUPLEX_DISAGREEMENT = 10,
+};
+
+enum codec_ffi_family_kind {
+    CODEC_FFI_FAMILY_CALLED = 0,    /* the duplex's length: the only kind that writes into the twelve columns */
+    CODEC_FFI_FAMILY_EMPTY = 1,     /* no record entered a side */
+    CODEC_FFI_FAMILY_NO_STRAND = 2, /* a strand is absent */
+    CODEC_FFI_FAMILY_REJECTED = 3,  /* the reason's number */
+    CODEC_FFI_FAMILY_REFUSED = 4,   /* the refusal's number and what goes with it: nothing at all is written */
+};
+
+/* Fields that do not belong to the kind are 0. */
+struct codec_ffi_family_ending {
+    uint32_t kind;
+    uint32_t number;
+    uint64_t with;
+    uint64_t length;
+};
+
+/* The ending, how many records are listed, and the ledger for the next call. */
+struct codec_ffi_family_answer {
+    struct codec_ffi_family_ending ending;
+    uint64_t listed;
+    struct codec_ffi_ledger ledger;
+};
+
+/*
+ * A whole family. Lengths are counts of elements; depths and errors are 16-bit numbers here. The columns of a strand that
+ * is absent, its `has_` 0, are not read. Lent room: at least 2,048 places in each column of d (the duplex), s1 and s2 (R1's and
+ * R2's strand under it), 512 in listed and reasons, 8 words in marks. The answer fills the first places of each, what lies
+ * beyond stays as it is. No pointer is null, also where its length is 0, nothing that is written overlaps anything else, and
+ * each `bool` is 0 or 1.
+ */
+struct codec_ffi_family_answer codec_ffi_family(
+    const struct codec_ffi_record *records, size_t records_len,
+    const uint32_t *ops, size_t ops_len,
+    struct codec_ffi_options options,
+    bool has_r1,
+    const uint8_t *r1_bases, size_t r1_bases_len,
+    const uint8_t *r1_quals, size_t r1_quals_len,
+    const uint16_t *r1_depths, size_t r1_depths_len,
+    const uint16_t *r1_errors, size_t r1_errors_len,
+    bool has_r2,
+    const uint8_t *r2_bases, size_t r2_bases_len,
+    const uint8_t *r2_quals, size_t r2_quals_len,
+    const uint16_t *r2_depths, size_t r2_depths_len,
+    const uint16_t *r2_errors, size_t r2_errors_len,
+    struct codec_ffi_ledger ledger,
+    uint8_t *d_bases, size_t d_bases_len,
+    uint8_t *d_quals, size_t d_quals_len,
+    uint16_t *d_depths, size_t d_depths_len,
+    uint16_t *d_errors, size_t d_errors_len,
+    uint8_t *s1_bases, size_t s1_bases_len,
+    uint8_t *s1_quals, size_t s1_quals_len,
+    uint16_t *s1_depths, size_t s1_depths_len,
+    uint16_t *s1_errors, size_t s1_errors_len,
+    uint8_t *s2_bases, size_t s2_bases_len,
+    uint8_t *s2_quals, size_t s2_quals_len,
+    uint16_t *s2_depths, size_t s2_depths_len,
+    uint16_t *s2_errors, size_t s2_errors_len,
+    uint32_t *listed, size_t listed_len,
+    uint8_t *reasons, size_t reasons_len,
+    uint64_t *marks, size_t marks_len);
+
 #endif

@@ -1,4 +1,68 @@
-//! The proved calls of a CODEC duplex caller, from Rust: the combining step, and selection alone.
+//! The proved calls of a CODEC duplex caller, from Rust: a whole family, selection alone, and the combining step.
+//!
+//! [`family`] stands in the place of the original's `consensus_reads_raw`: records and strands in, the duplex, the rejected
+//! records and the next [`Ledger`] out. It takes all room from the caller, allocates nothing and does not panic.
+//!
+//! ```
+//! use codec_host::{Ending, Ledger, Options, Record, Room, Strand, family};
+//!
+//! let r1 = Record { flags: 65, verdict: true, clipped: 4, position: 100, count: 1, ..Record::default() };
+//! let r2 = Record { flags: 145, position: 102, ..r1 };
+//! let alone = Record { flags: 0, ..r1 };
+//! let strand = Strand { bases: b"ACGT", quals: &[30; 4], depths: &[2; 4], errors: &[0; 4] };
+//! let mut room = Room::new();
+//! let answer = family(
+//!     &[r1, alone, r2],
+//!     &[4 * 16],
+//!     &Options::default(),
+//!     Some(strand),
+//!     Some(strand),
+//!     Ledger::default(),
+//!     room.lend(),
+//! );
+//! assert_eq!(answer.ending, Ending::Called { length: 6 });
+//! assert_eq!(room.duplex(6).bases, b"ACNNGT");
+//! assert_eq!(room.r2(6).bases, b"nnACGT");
+//! let rejects: Vec<_> = room.rejects(answer.listed).collect();
+//! assert_eq!(rejects, [(1, codec_host::Reason::FragmentRead)]);
+//! assert_eq!((answer.ledger.records, answer.ledger.used), (3, 2));
+//! assert_eq!(answer.ledger.rates().map(|rates| rates.millionths), Ok(1_000_000));
+//! ```
+//!
+//! Before it go [`select`] and the caller's own single-strand consensus, built of the reads that stay:
+//!
+//! ```
+//! use codec_host::{Ending, Ledger, Marks, Options, Record, Room, Selection, Strand, family, select};
+//!
+//! /// Stands for the single-strand caller.
+//! fn consensus_call(_records: &[Record], _side: &Marks) -> Option<Strand<'static>> {
+//!     Some(Strand { bases: b"ACGT", quals: &[30; 4], depths: &[2; 4], errors: &[0; 4] })
+//! }
+//!
+//! fn call(families: &[(Vec<Record>, Vec<u32>)], options: &Options) -> Ledger {
+//!     let mut ledger = Ledger::default();
+//!     let mut room = Room::new();
+//!     for (records, ops) in families {
+//!         let [r1, r2] = match select(records, ops, options) {
+//!             Selection::Kept { r1, r2, .. } => [r1, r2].map(|side| consensus_call(records, &side)),
+//!             _ => [None, None],
+//!         };
+//!         let answer = family(records, ops, options, r1, r2, ledger, room.lend());
+//!         ledger = answer.ledger;
+//!         if let Ending::Called { length } = answer.ending {
+//!             println!("{}", String::from_utf8_lossy(room.duplex(length).bases));
+//!         }
+//!         for (record, reason) in room.rejects(answer.listed) {
+//!             println!("{record} {reason:?}");
+//!         }
+//!     }
+//!     ledger
+//! }
+//! # let r1 = Record { flags: 65, verdict: true, clipped: 4, position: 100, count: 1, ..Record::default() };
+//! # let families = [(vec![r1, Record { flags: 145, position: 102, ..r1 }], vec![64]), (vec![r1], vec![64])];
+//! # let ledger = call(&families, &Options::default());
+//! # assert_eq!((ledger.families, ledger.duplexes, ledger.bases), (2, 1, 6));
+//! ```
 //!
 //! [`combine`] takes depths and errors as `u16`, [`combine_bytes`] as byte pairs, low byte first. Neither panics,
 //! whatever the columns hold and however long they are; what does not fit together is [`Answer::Refused`].
@@ -33,10 +97,16 @@
 //! assert_eq!((start, end, length), (105, 109, 15));
 //! ```
 
+mod family;
+mod room;
 mod select;
 mod sys;
 pub mod text;
 
+pub use family::{
+    Ending, FamilyAnswer, LIST_PLACES, Ledger, Lent, MARK_WORDS, Rates, Reason, Refusal, family,
+};
+pub use room::Room;
 pub use select::{MAX_RECORDS, Marks, Options, Record, Selection, select};
 
 // The exported call wants the low byte first, as `u16` lies in memory on the only machine the library is made for.
@@ -142,6 +212,9 @@ pub fn combine_bytes(
 }
 
 impl<'a> Strand<'a> {
+    /// What an absent strand lends.
+    const NONE: Strand<'static> = Strand { bases: &[], quals: &[], depths: &[], errors: &[] };
+
     fn into_bytes(self) -> Strand<'a, u8> {
         Strand {
             bases: self.bases,

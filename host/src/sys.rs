@@ -1,5 +1,6 @@
 //! The exported calls as the linker sees them: a slice is a pointer and a count.
 
+use crate::family::Ledger;
 use crate::select::Record;
 
 #[repr(C)]
@@ -47,6 +48,31 @@ pub struct SelectAnswer {
     pub r2: [u64; 8],
 }
 
+#[repr(C)]
+pub struct RatesAnswer {
+    pub kind: u32,
+    pub number: u32,
+    pub with: u64,
+    pub filtered: u64,
+    pub rate: f64,
+    pub millionths: u64,
+}
+
+#[repr(C)]
+pub struct FamilyEnding {
+    pub kind: u32,
+    pub number: u32,
+    pub with: u64,
+    pub length: u64,
+}
+
+#[repr(C)]
+pub struct FamilyAnswer {
+    pub ending: FamilyEnding,
+    pub listed: u64,
+    pub ledger: Ledger,
+}
+
 unsafe extern "C" {
     pub fn codec_ffi_select(
         records: *const Record,
@@ -84,4 +110,63 @@ unsafe extern "C" {
         errors: *mut u8,
         errors_len: usize,
     ) -> CombineAnswer;
+
+    pub fn codec_ffi_rates(ledger: Ledger) -> RatesAnswer;
+
+    pub fn codec_ffi_family(
+        records: *const Record,
+        records_len: usize,
+        ops: *const u32,
+        ops_len: usize,
+        options: Options,
+        has_r1: bool,
+        r1_bases: *const u8,
+        r1_bases_len: usize,
+        r1_quals: *const u8,
+        r1_quals_len: usize,
+        r1_depths: *const u16,
+        r1_depths_len: usize,
+        r1_errors: *const u16,
+        r1_errors_len: usize,
+        has_r2: bool,
+        r2_bases: *const u8,
+        r2_bases_len: usize,
+        r2_quals: *const u8,
+        r2_quals_len: usize,
+        r2_depths: *const u16,
+        r2_depths_len: usize,
+        r2_errors: *const u16,
+        r2_errors_len: usize,
+        ledger: Ledger,
+        d_bases: *mut u8,
+        d_bases_len: usize,
+        d_quals: *mut u8,
+        d_quals_len: usize,
+        d_depths: *mut u16,
+        d_depths_len: usize,
+        d_errors: *mut u16,
+        d_errors_len: usize,
+        s1_bases: *mut u8,
+        s1_bases_len: usize,
+        s1_quals: *mut u8,
+        s1_quals_len: usize,
+        s1_depths: *mut u16,
+        s1_depths_len: usize,
+        s1_errors: *mut u16,
+        s1_errors_len: usize,
+        s2_bases: *mut u8,
+        s2_bases_len: usize,
+        s2_quals: *mut u8,
+        s2_quals_len: usize,
+        s2_depths: *mut u16,
+        s2_depths_len: usize,
+        s2_errors: *mut u16,
+        s2_errors_len: usize,
+        listed: *mut u32,
+        listed_len: usize,
+        reasons: *mut u8,
+        reasons_len: usize,
+        marks: *mut u64,
+        marks_len: usize,
+    ) -> FamilyAnswer;
 }

@@ -1,5 +1,7 @@
 //! Combining alone as text, all numbers decimal: `C LENGTH MAXDIS RATE`, then `B`, `Q`, `D`, `E` of both strands.
 
+pub mod family;
+
 use crate::{Answer, Limits, Results, Strand};
 use std::fmt::{self, Display, Formatter};
 use std::str::FromStr;
@@ -37,6 +39,17 @@ impl Columns {
             quals: &mut self.quals,
             depths: &mut self.depths,
             errors: &mut self.errors,
+        }
+    }
+
+    /// The first so many positions, in memory of their own.
+    pub fn first(&self, length: usize) -> Self {
+        let length = length.min(self.bases.len());
+        Self {
+            bases: self.bases[..length].to_vec(),
+            quals: self.quals[..length].to_vec(),
+            depths: self.depths[..length].to_vec(),
+            errors: self.errors[..length].to_vec(),
         }
     }
 

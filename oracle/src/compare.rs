@@ -30,15 +30,50 @@ pub fn with_plain(seed: u64, families: usize) -> Result<(), String> {
     Ok(())
 }
 
+/// Generated families that a program is given at once: enough to make its start cheap, few enough to hold in memory.
+const AT_ONCE: usize = 10_000;
+
+/// A program on N generated families, part by part; each part begins with the ledger that the one before left.
+pub fn with_program_on(
+    form: Form,
+    program: &str,
+    seed: u64,
+    families: usize,
+) -> Result<(), String> {
+    let mut generated = Calls::new(seed).take(families).peekable();
+    let mut ledger = Ledger::default();
+    while generated.peek().is_some() {
+        let mut calls: Vec<Call> = generated.by_ref().take(AT_ONCE).collect();
+        calls[0].ledger.get_or_insert(ledger);
+        let expected = with_calls(form, program, &calls)?;
+        ledger = ledger_of(expected.last()).unwrap_or(ledger);
+    }
+    println!("{program}: {families} families of seed {seed}: no difference");
+    Ok(())
+}
+
+/// What an answer says of the ledger after it.
+fn ledger_of(block: Option<&String>) -> Option<Ledger> {
+    let figures = block?.lines().find_map(|line| line.strip_prefix("T "))?;
+    let figures: Result<Vec<u64>, _> = figures.split(' ').map(str::parse).collect();
+    figures.ok()?.try_into().ok().map(Ledger)
+}
+
 /// A program on the calls given.
 pub fn with_program(form: Form, program: &str, calls: &[Call]) -> Result<(), String> {
+    with_calls(form, program, calls)?;
+    println!("{program}: {} families: no difference", calls.len());
+    Ok(())
+}
+
+/// The original's answers, which are the program's too.
+fn with_calls(form: Form, program: &str, calls: &[Call]) -> Result<Vec<String>, String> {
     let expected = Answerer(None).blocks(form, calls.iter());
     let found = split(form, &run(program, &written(calls))?);
     let answer =
         |call: &Call| run(program, &written(std::slice::from_ref(call))).unwrap_or_default();
     report(form, calls, &expected, &found, TRIES_OF_PROGRAM, answer)?;
-    println!("{program}: {} families: no difference", calls.len());
-    Ok(())
+    Ok(expected)
 }
 
 fn report(

@@ -1,23 +1,10 @@
 //! The original caller beside the port: answers, generated families, comparisons.
 
-mod answers;
-mod bite;
-mod cases;
-mod combine;
-mod compare;
-mod driver;
-mod generate;
-mod model;
-mod plain;
-mod refusal;
-mod sample;
-mod shrink;
-mod text;
-
-use answers::{Answerer, Form, written};
-use model::Call;
-use plain::Reader;
-use plain::wrong::ALL;
+use oracle::answers::{Answerer, Form, written};
+use oracle::model::Call;
+use oracle::plain::Reader;
+use oracle::plain::wrong::ALL;
+use oracle::{bite, combine, compare, generate, sample, text};
 use std::io::{Read, Write};
 
 const USAGE: &str = "usage, FORM being family or select:
@@ -97,8 +84,8 @@ fn make(words: &[&str]) -> Done {
 fn compare(words: &[&str]) -> Done {
     Some(match words {
         ["against", form, program, seed, n] => {
-            let calls = generated(seed.parse().ok()?, n.parse().ok()?);
-            compare::with_program(Form::named(form)?, program, &calls)
+            let (seed, n) = (seed.parse().ok()?, n.parse().ok()?);
+            compare::with_program_on(Form::named(form)?, program, seed, n)
         }
         ["against-list", form, program, file] => {
             let text = std::fs::read_to_string(file);

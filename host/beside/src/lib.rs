@@ -1,6 +1,9 @@
-//! The exported call beside the original.
+//! The exported calls beside the original and beside the second reader of document 01.
 
 pub mod enumerated;
+pub mod guarded;
+pub mod held;
+pub mod noise;
 pub mod original_call;
 pub mod random;
 pub mod rng;

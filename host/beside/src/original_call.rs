@@ -40,7 +40,7 @@ fn options(limits: Limits) -> CodecConsensusOptions {
     }
 }
 
-fn columns(columns: &Columns) -> trace::Columns {
+pub fn columns(columns: &Columns) -> trace::Columns {
     let Columns { bases, quals, depths, errors } = columns.clone();
     trace::Columns { bases, quals, depths, errors }
 }

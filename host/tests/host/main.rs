@@ -3,7 +3,11 @@
 mod c_host;
 mod call;
 mod columns;
+mod family;
+mod family_call;
+mod family_refusals;
 mod limits;
 mod positions;
+mod rates;
 mod selection;
 mod text_form;

@@ -27,6 +27,26 @@ pub fn call_family(
     Seen { trace: crate::trace::take(), marks: caller.reject_mask, stats: caller.stats, result }
 }
 
+/// A caller made once, reject tracking on, so that a family's call can be repeated with nothing around it.
+pub struct FamilyCalls(CodecConsensusCaller);
+
+impl FamilyCalls {
+    pub fn new(options: CodecConsensusOptions) -> Self {
+        let caller = CodecConsensusCaller::new_with_rejects_tracking;
+        Self(caller(String::new(), String::new(), options, true))
+    }
+
+    /// Strands for the calls to come, R1's and R2's in turn.
+    pub fn hand_over(&mut self, strands: impl IntoIterator<Item = Columns>) {
+        self.0.ss_caller.strands.extend(strands.into_iter().map(Some));
+    }
+
+    /// How many duplexes the call makes.
+    pub fn call(&mut self, records: &[RawRecord]) -> std::result::Result<usize, CodecConsensusError> {
+        self.0.consensus_reads_raw(records).map(|output| output.count)
+    }
+}
+
 /// Combining alone, made ready once so that a call can be repeated with nothing around it.
 pub struct CombiningAlone {
     caller: CodecConsensusCaller,
@@ -82,6 +102,9 @@ fn to_columns(strand: &SingleStrandConsensus) -> Columns {
 }
 
 fn trace_columns(columns: [&SingleStrandConsensus; 3]) {
+    if crate::trace::is_silent() {
+        return;
+    }
     crate::trace::note(|trace| trace.columns = Some(columns.map(to_columns)));
 }
 
@@ -92,6 +115,9 @@ fn trace_selected(
     length: usize,
     r1_is_negative: bool,
 ) {
+    if crate::trace::is_silent() {
+        return;
+    }
     let kept = [r1, r2].map(|side| side.iter().map(|info| info.raw_idx).collect());
     let selected = Selected { kept, window, length, r1_is_negative };
     crate::trace::note(|trace| trace.selected = Some(selected));

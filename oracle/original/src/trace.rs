@@ -2,6 +2,7 @@
 
 use crate::caller::RejectionReason;
 use std::cell::RefCell;
+use std::sync::atomic::{AtomicBool, Ordering};
 
 /// Four columns of equal length: a strand handed over, or a result.
 #[derive(Debug, Clone, Default, PartialEq)]
@@ -31,6 +32,17 @@ pub struct Trace {
     pub columns: Option<[Columns; 3]>,
 }
 
+/// A run that takes the time has nothing noted down.
+static SILENT: AtomicBool = AtomicBool::new(false);
+
+pub fn silence() {
+    SILENT.store(true, Ordering::Relaxed);
+}
+
+pub(crate) fn is_silent() -> bool {
+    SILENT.load(Ordering::Relaxed)
+}
+
 thread_local! {
     static TRACE: RefCell<Trace> = RefCell::new(Trace::default());
 }
@@ -44,11 +56,17 @@ pub(crate) fn note(write: impl FnOnce(&mut Trace)) {
 }
 
 pub(crate) fn rejected(record: usize, reason: RejectionReason) {
+    if is_silent() {
+        return;
+    }
     note(|trace| trace.rejected.push((record, reason)));
 }
 
 /// The cap counts without saying which: the records at places not kept are the ones.
 pub(crate) fn capped(records: impl Iterator<Item = usize>, keep: &[usize]) {
+    if is_silent() {
+        return;
+    }
     for (place, record) in records.enumerate() {
         if !keep.contains(&place) {
             rejected(record, RejectionReason::Downsampled);

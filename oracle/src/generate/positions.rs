@@ -20,7 +20,7 @@ pub fn columns(rng: &mut Rng, most: usize) -> Pair {
         let mut strand = Strand::default();
         for _ in 0..length {
             let letter = rng.pick(letters);
-            strand.bases.push(if every_byte { rng.next() as u8 } else { letter });
+            strand.bases.push(if every_byte { rng.draw() as u8 } else { letter });
             strand.quals.push(quality(rng, manner[0]));
             strand.depths.push(count(rng, manner[1]));
             strand.errors.push(count(rng, manner[1]));

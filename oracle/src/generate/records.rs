@@ -82,7 +82,7 @@ fn plan(rng: &mut Rng) -> Plan {
     let ways = sides.map(|side| ways(rng, side, &shared, &edges));
     let ranks = match rng.chance(60) {
         true => vec![-1, 0, 1, i32::MIN, i32::MAX],
-        false => (0..8).map(|_| rng.next() as i32).collect(),
+        false => (0..8).map(|_| rng.draw() as i32).collect(),
     };
     Plan {
         reverse: [r1_reverse, r2_reverse],
@@ -216,7 +216,7 @@ fn add_pair(rng: &mut Rng, family: &mut Family, plan: &Plan) {
 
 fn fresh_name(rng: &mut Rng, family: &Family) -> u32 {
     loop {
-        let name = if rng.chance(95) { rng.range(0, 2_000) as u32 } else { rng.next() as u32 };
+        let name = if rng.chance(95) { rng.range(0, 2_000) as u32 } else { rng.draw() as u32 };
         if family.records.iter().all(|record| record.name != name) {
             return name;
         }
@@ -234,7 +234,7 @@ fn place(rng: &mut Rng, family: &mut Family, alignment: &Alignment) -> (u32, u32
         }
     }
     while rng.chance(12) {
-        let word = rng.next() as u32;
+        let word = rng.draw() as u32;
         family.words.push(word);
     }
     let start = family.words.len() as u32;
@@ -265,10 +265,10 @@ fn add_other(rng: &mut Rng, family: &mut Family, plan: &Plan) {
         name,
         verdict: rng.chance(80),
         rank: rng.pick(&plan.ranks),
-        clipped_length: if honest { alignment.read_bases() as u32 } else { rng.next() as u32 },
-        position: if honest { alignment.position.max(1) as u32 } else { rng.next() as u32 },
-        start: if honest { start } else { rng.next() as u32 },
-        count: if honest { count } else { rng.next() as u32 },
+        clipped_length: if honest { alignment.read_bases() as u32 } else { rng.draw() as u32 },
+        position: if honest { alignment.position.max(1) as u32 } else { rng.draw() as u32 },
+        start: if honest { start } else { rng.draw() as u32 },
+        count: if honest { count } else { rng.draw() as u32 },
     };
     let at = if rng.chance(50) { 0 } else { rng.index(family.records.len() + 1) };
     family.records.insert(at, record);

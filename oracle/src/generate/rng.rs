@@ -7,7 +7,7 @@ impl Rng {
         Self(seed)
     }
 
-    pub fn next(&mut self) -> u64 {
+    pub fn draw(&mut self) -> u64 {
         self.0 = self.0.wrapping_add(0x9e37_79b9_7f4a_7c15);
         let mut z = self.0;
         z = (z ^ (z >> 30)).wrapping_mul(0xbf58_476d_1ce4_e5b9);
@@ -17,7 +17,7 @@ impl Rng {
 
     /// From low to high, both included.
     pub fn range(&mut self, low: u64, high: u64) -> u64 {
-        low + self.next() % (high - low + 1)
+        low + self.draw() % (high - low + 1)
     }
 
     pub fn index(&mut self, length: usize) -> usize {
@@ -26,7 +26,7 @@ impl Rng {
 
     /// True so many times in a hundred.
     pub fn chance(&mut self, percent: u64) -> bool {
-        self.next() % 100 < percent
+        self.draw() % 100 < percent
     }
 
     pub fn pick<T: Clone>(&mut self, from: &[T]) -> T {
@@ -35,7 +35,7 @@ impl Rng {
 
     /// An index, drawn by weight.
     pub fn weighted(&mut self, weights: &[u64]) -> usize {
-        let mut left = self.next() % weights.iter().sum::<u64>();
+        let mut left = self.draw() % weights.iter().sum::<u64>();
         for (index, &weight) in weights.iter().enumerate() {
             if left < weight {
                 return index;

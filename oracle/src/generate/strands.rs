@@ -79,6 +79,6 @@ pub fn count(rng: &mut Rng, manner: usize) -> u16 {
     match manner {
         0 => rng.range(0, 9) as u16,
         1 => rng.pick(&[0, 1, 2, 16_384, 32_766, 32_767, 32_768, 40_000, 65_535]),
-        _ => rng.next() as u16,
+        _ => rng.draw() as u16,
     }
 }

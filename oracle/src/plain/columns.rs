@@ -13,9 +13,12 @@ impl Reader {
         chosen: &Chosen,
         strands: [Strand; 2],
     ) -> (Ending, [u64; 2]) {
-        let turned = if chosen.r1_is_negative { 0 } else { 1 };
+        let is_turned = |side: usize| match self.misreads(Wrong::TurnedByOwnSide) {
+            true => chosen.reverse[side],
+            false => chosen.r1_is_negative == (side == 0),
+        };
         let [r1, r2] =
-            [0, 1].map(|side| self.laid_out(chosen, side, &strands[side], side == turned));
+            [0, 1].map(|side| self.laid_out(chosen, side, &strands[side], is_turned(side)));
         let tally = tallies(&r1, &r2);
         if self.limits(&family.options, tally, r1.bases.len()).is_some() {
             return (Ending::Rejected(10), tally);
@@ -27,6 +30,9 @@ impl Reader {
         self.mask(&mut duplex, [&r1, &r2], &family.options);
         let columns = match chosen.r1_is_negative {
             true if self.misreads(Wrong::StrandsNotTurnedBack) => [self.turn(&duplex), r1, r2],
+            true if self.misreads(Wrong::DuplexNotTurnedBack) => {
+                [duplex, self.turn(&r1), self.turn(&r2)]
+            }
             true => [self.turn(&duplex), self.turn(&r1), self.turn(&r2)],
             false => [duplex, r1, r2],
         };
@@ -34,15 +40,18 @@ impl Reader {
     }
 
     fn laid_out(&self, chosen: &Chosen, side: usize, strand: &Strand, turned: bool) -> Strand {
-        let left = match self.misreads(Wrong::PaddingByR1) {
-            true => chosen.r1_is_negative == (side == 0),
-            false => chosen.reverse[side],
+        let left = match self.0 {
+            Some(Wrong::PaddingByR1) => chosen.r1_is_negative == (side == 0),
+            Some(Wrong::PaddingRight) => !chosen.reverse[side],
+            _ => chosen.reverse[side],
         };
-        let length = chosen.length as usize;
+        let base = if self.misreads(Wrong::PaddingUpper) { b'N' } else { b'n' };
+        let quality = if self.misreads(Wrong::PaddingQuality) { 2 } else { 0 };
+        let padded = |strand: &Strand| padded(strand, chosen.length as usize, left, base, quality);
         match (turned, self.misreads(Wrong::PadBeforeTurn)) {
-            (false, _) => padded(strand, length, left),
-            (true, false) => padded(&self.turn(strand), length, left),
-            (true, true) => self.turn(&padded(strand, length, left)),
+            (false, _) => padded(strand),
+            (true, false) => padded(&self.turn(strand)),
+            (true, true) => self.turn(&padded(strand)),
         }
     }
 
@@ -58,7 +67,9 @@ impl Reader {
         };
         let mut turned = strand.clone();
         turned.bases = strand.bases.iter().rev().map(complement).collect();
-        turned.quals.reverse();
+        if !self.misreads(Wrong::QualitiesNotTurned) {
+            turned.quals.reverse();
+        }
         if !self.misreads(Wrong::DepthsNotTurned) {
             turned.depths.reverse();
             turned.errors.reverse();
@@ -98,9 +109,14 @@ impl Reader {
                 true => strand.bases[at] == b'n',
                 false => lacks_data(strand, at),
             });
-            let one = lacking[0] || lacking[1];
-            let both = lacking[0] && lacking[1] && self.misreads(Wrong::SingleNotBoth);
-            if one && !both {
+            let [one, both] = [lacking[0] || lacking[1], lacking[0] && lacking[1]];
+            let masked = match self.0 {
+                Some(Wrong::SingleNotBoth) => one && !both,
+                Some(Wrong::SingleNeedsBoth) => both,
+                Some(Wrong::SingleWhereN) => duplex.bases[at] == b'N',
+                _ => one,
+            };
+            if masked {
                 self.overwrite(duplex, at, quality);
             }
         }
@@ -116,15 +132,15 @@ impl Reader {
     }
 }
 
-/// n, 0, 0, 0 on the left or on the right.
-fn padded(strand: &Strand, length: usize, left: bool) -> Strand {
+/// The base given (n), the quality given (0), 0, 0 on the left or on the right.
+fn padded(strand: &Strand, length: usize, left: bool, base: u8, quality: u8) -> Strand {
     fn pad<T: Copy>(column: &[T], length: usize, left: bool, with: T) -> Vec<T> {
         let padding = vec![with; length.saturating_sub(column.len())];
         if left { [&padding, column].concat() } else { [column, &padding].concat() }
     }
     Strand {
-        bases: pad(&strand.bases, length, left, b'n'),
-        quals: pad(&strand.quals, length, left, 0),
+        bases: pad(&strand.bases, length, left, base),
+        quals: pad(&strand.quals, length, left, quality),
         depths: pad(&strand.depths, length, left, 0),
         errors: pad(&strand.errors, length, left, 0),
     }

@@ -2,9 +2,33 @@
 
 use super::wrong::Wrong;
 use super::{Course, Fate, Fates, Reader};
-use crate::model::{Ending, Ledger};
+use crate::model::{Ending, Ledger, Refusal};
+
+/// What follows from a ledger: the sum of the reasons, the rate, and the rate in millionths.
+#[derive(Debug, Clone, Copy, PartialEq)]
+pub struct Rates {
+    pub filtered: u64,
+    pub rate: f64,
+    pub millionths: u64,
+}
 
 impl Reader {
+    /// Without duplex bases both rates are 0; refusal 10 is the only one.
+    pub fn rates(&self, ledger: &Ledger) -> Result<Rates, Refusal> {
+        let refusal = self.refusal_of_ledger(ledger).filter(|refusal| refusal.0 == 10);
+        if let Some(refusal) = refusal {
+            return Err(refusal);
+        }
+        let filtered = ledger.0[Ledger::REASONS + 1..=Ledger::REASONS + 10].iter().sum();
+        let [both, unequal] = [ledger.0[Ledger::DUPLEX_BASES], ledger.0[Ledger::DISAGREEMENTS]];
+        if both == 0 {
+            return Ok(Rates { filtered, rate: 0.0, millionths: 0 });
+        }
+        let millionths = u128::from(unequal) * 1_000_000 / u128::from(both);
+        let millionths = millionths.try_into().expect("at most 2^41 millions");
+        Ok(Rates { filtered, rate: unequal as f64 / both as f64, millionths })
+    }
+
     pub(super) fn ledger_after(
         &self,
         before: &Ledger,

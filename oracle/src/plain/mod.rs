@@ -3,7 +3,7 @@
 mod cigar;
 mod columns;
 mod group;
-mod ledger;
+pub mod ledger;
 mod pairs;
 pub mod position;
 mod refusals;
@@ -61,10 +61,12 @@ impl Reader {
         if self.misreads(Wrong::RoomIfCalled) {
             self.room(family, matches!(ending, Ending::Called(_)))?;
         }
+        self.take_back(&mut fates, &ending);
         give_rest(
             &mut fates,
             match ending {
                 Ending::Rejected(reason) => Fate::Reason(reason),
+                Ending::NoStrand if self.misreads(Wrong::NoStrandListed) => Fate::Reason(3),
                 Ending::NoStrand => Fate::NoStrand,
                 Ending::Called(_) | Ending::Empty => Fate::Used,
             },
@@ -72,6 +74,18 @@ impl Reader {
         let ledger = self.ledger_after(ledger, &fates, &ending, &course, tally);
         let (list, marks) = self.list_and_marks(&fates);
         Ok(Answer { ending, list, marks, ledger })
+    }
+
+    /// Fates that a wrong reading gives anew at the end.
+    fn take_back(&self, fates: &mut Fates, ending: &Ending) {
+        let rejected = matches!(ending, Ending::Rejected(_));
+        let taken = |fate: &Fate| match self.0 {
+            Some(Wrong::LastFate) => rejected,
+            Some(Wrong::PassedOverEnds) => rejected && *fate == Fate::PassedOver,
+            Some(Wrong::MinorityFate) => rejected && *fate == Fate::Reason(4),
+            _ => false,
+        };
+        fates.iter_mut().for_each(|slot| *slot = slot.take().filter(|fate| !taken(fate)));
     }
 
     pub fn selection(&self, family: &Family) -> Result<Selection, Refusal> {

@@ -105,7 +105,7 @@ impl Reader {
         if small && called { Err(Refusal(9, 0)) } else { Ok(()) }
     }
 
-    fn refusal_of_ledger(&self, ledger: &Ledger) -> Option<Refusal> {
+    pub(super) fn refusal_of_ledger(&self, ledger: &Ledger) -> Option<Refusal> {
         let families = ledger.0[Ledger::FAMILIES];
         let reached = self.misreads(Wrong::CounterAtLimit);
         let high = ledger.0[1..].iter().any(|&n| n > COUNTS || n == COUNTS && reached);

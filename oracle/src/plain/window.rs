@@ -52,7 +52,10 @@ impl Reader {
             let dovetail = legacy && minimum_met && phase && has_length;
             return Err(if dovetail { 8 } else { 7 });
         };
-        let reverse = longest.each_ref().map(|side| side.reverse);
+        let reverse = match self.misreads(Wrong::PaddingByFirst) {
+            true => sides.each_ref().map(|side| family.records[side[0]].flags & 16 != 0),
+            false => longest.each_ref().map(|side| side.reverse),
+        };
         Ok(Chosen { window, length, r1_is_negative, reverse, sides })
     }
 

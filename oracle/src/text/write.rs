@@ -13,7 +13,7 @@ pub fn numbers<N: Display>(out: &mut String, tag: &str, values: impl IntoIterato
 
 fn bases(out: &mut String, tag: &str, bases: &[u8]) {
     let space = if bases.is_empty() { "" } else { " " };
-    let text = std::str::from_utf8(bases).expect("bases are letters");
+    let text = String::from_utf8_lossy(bases);
     writeln!(out, "{tag}{space}{text}").expect("a string takes all");
 }
 

@@ -1,18 +1,27 @@
-//! The time of one call at 2,048 positions, the exported call and the original in turn on the same columns; then that of
-//! selection alone, by itself.
+//! The time of one call, the exported one and the original's in turn on the same input: combining at 2,048 positions, then
+//! whole families; last the time of selection alone, by itself.
 
 use beside::original_call;
 use beside::rng::Rng;
 use codec_host::text::{Columns, Pair};
-use codec_host::{Limits, MAX_POSITIONS, MAX_RECORDS, Options, Record, Selection, combine, select};
+use codec_host::{
+    Ending, Ledger, Limits, MAX_POSITIONS, MAX_RECORDS, Options, Record, Room, Selection, combine,
+    family, select,
+};
+use fgumi_raw_bam::hash::forget_ranks;
+use fgumi_raw_bam::{Fields, RawRecord};
+use original::codec_caller::{CodecConsensusOptions, FamilyCalls};
+use original::trace;
 use std::hint::black_box;
 use std::time::Instant;
 
 /// Different pairs in a round: too many positions for a branch predictor to learn, few enough for the cache.
 const PAIRS: usize = 16;
 const ROUNDS: usize = 2_001;
-/// Enough for families whose calls are longer.
-const SELECTION_ROUNDS: usize = 201;
+/// Enough for families, whose calls are longer.
+const FAMILY_ROUNDS: usize = 401;
+/// Bases of a read and of a strand.
+const READ: usize = 150;
 
 fn main() {
     let mut rng = Rng::new(1);
@@ -24,66 +33,131 @@ fn main() {
     println!("{:<36}{:>10}{:>10}{:>8}", "bases", "exported", "original", "ratio");
     report("random", &random);
     report("99 in 100 agreeing", &realistic);
-    println!("median of {SELECTION_ROUNDS} rounds over {PAIRS} families, ns per call");
+    trace::silence();
+    forget_ranks();
+    println!("median of {FAMILY_ROUNDS} rounds over {PAIRS} families, ns per call");
+    println!("{:<36}{:>10}{:>10}{:>8}", "family call, records", "exported", "original", "ratio");
+    let sizes = [2, 8, 32, 128, MAX_RECORDS];
+    let families = sizes.map(|records| (0..PAIRS).map(|_| family_of(&mut rng, records)).collect());
+    families.iter().for_each(|families: &Vec<Family>| report_family(families));
     println!("{:<36}{:>10}", "selection alone, records", "exported");
-    for records in [2, 32, MAX_RECORDS] {
-        let families: Vec<Family> = (0..PAIRS).map(|_| family(&mut rng, records)).collect();
-        report_selection(&families);
-    }
+    families.iter().for_each(|families| report_selection(families));
 }
 
+/// A family in the terms of both.
 struct Family {
     records: Vec<Record>,
     ops: Vec<u32>,
+    raw: Vec<RawRecord>,
+    strands: [Columns; 2],
 }
 
-/// Pairs of 150 bases whose reads share 100, one record in eight with an insertion or a deletion.
-fn family(rng: &mut Rng, records: usize) -> Family {
+/// Pairs of 150 bases whose reads share 100, one record in eight with an insertion or a deletion, and strands of 150.
+fn family_of(rng: &mut Rng, records: usize) -> Family {
     let (m, i, d) = (|n: u32| n * 16, 16 + 1, 16 + 2);
     let at = 1_000 + rng.below(1_000_000) as u32;
-    let mut family = Family { records: Vec::new(), ops: Vec::new() };
+    let strands = strands_of(rng);
+    let mut family = Family { records: Vec::new(), ops: Vec::new(), raw: Vec::new(), strands };
     for number in 0..records {
-        let ops = match rng.below(16) {
-            0 => vec![m(70), i, m(79)],
-            1 => vec![m(70), d, m(80)],
+        let ops = match (number % 16, rng.below(2)) {
+            (5 | 14, 0) => vec![m(70), i, m(79)],
+            (5 | 14, _) => vec![m(70), d, m(80)],
             _ => vec![m(150)],
         };
         let is_r2 = number % 2 == 1;
-        family.records.push(Record {
+        let record = Record {
             flags: if is_r2 { 145 } else { 65 },
             name: (number / 2) as u32,
             verdict: true,
             rank: rng.draw() as i32,
-            clipped: 150,
+            clipped: READ as u32,
             position: if is_r2 { at + 50 } else { at },
             start: family.ops.len() as u32,
             count: ops.len() as u32,
-        });
+        };
+        family.raw.push(RawRecord::new(&Fields {
+            flags: record.flags,
+            name: record.name,
+            verdict: record.verdict,
+            rank: record.rank,
+            clipped_length: record.clipped,
+            position: record.position,
+            operations: &ops,
+        }));
+        family.records.push(record);
         family.ops.extend(ops);
     }
     family
 }
 
+/// Both strands of a molecule of 200 bases as they are read, differing at one position in a hundred.
+fn strands_of(rng: &mut Rng) -> [Columns; 2] {
+    let molecule = strand(rng, READ + 50);
+    let mut r1 = molecule.first(READ);
+    let mut r2 = strand(rng, READ);
+    let complement = |base: u8| match base {
+        b'A' => b'T',
+        b'C' => b'G',
+        b'G' => b'C',
+        _ => b'A',
+    };
+    for (place, base) in molecule.bases[50..].iter().rev().enumerate() {
+        r2.bases[place] = complement(*base);
+    }
+    r1.bases.iter_mut().filter(|_| rng.chance(1)).for_each(|base| *base = complement(*base));
+    [r1, r2]
+}
+
+/// The family call and the original's on the same families; the strands are handed to the original before the clock starts.
+fn report_family(families: &[Family]) {
+    let options = Options::default();
+    let mut ledger = Ledger::default();
+    let mut room = Room::new();
+    let mut ask = |given: &Family| {
+        let [r1, r2] = given.strands.each_ref().map(|strand| Some(strand.strand()));
+        let answer = family(&given.records, &given.ops, &options, r1, r2, ledger, room.lend());
+        ledger = answer.ledger;
+        black_box((answer.ending, &room));
+        answer.ending
+    };
+    assert!(families.iter().all(|family| ask(family) == Ending::Called { length: 200 }));
+    let mut calls = FamilyCalls::new(CodecConsensusOptions::default());
+    let (mut exported, mut original) = (Vec::new(), Vec::new());
+    for _ in 0..FAMILY_ROUNDS {
+        exported.push(per_call(families, |family| _ = black_box(ask(family))));
+        calls.hand_over(
+            families.iter().flat_map(|family| &family.strands).map(original_call::columns),
+        );
+        original.push(per_call(families, |family| {
+            assert!(matches!(black_box(calls.call(&family.raw)), Ok(1)));
+        }));
+    }
+    let (exported, original) = (median(exported), median(original));
+    let records = families[0].records.len();
+    println!("{records:<36}{exported:>10.0}{original:>10.0}{:>8.2}", exported / original);
+}
+
 fn report_selection(families: &[Family]) {
     let options = Options::default();
     let ask = |family: &Family| select(&family.records, &family.ops, &options);
-    assert!(families.iter().any(|family| matches!(ask(family), Selection::Kept { .. })));
-    let times =
-        (0..SELECTION_ROUNDS).map(|_| per_call(families, |family| _ = black_box(ask(family))));
+    assert!(families.iter().all(|family| matches!(ask(family), Selection::Kept { .. })));
+    let times = (0..FAMILY_ROUNDS).map(|_| per_call(families, |family| _ = black_box(ask(family))));
     println!("{:<36}{:>10.0}", families[0].records.len(), median(times.collect()));
 }
 
-/// Letters and qualities as sequenced; the strands agree at so many positions in a hundred.
+/// Letters and qualities as sequenced.
+fn strand(rng: &mut Rng, length: usize) -> Columns {
+    let mut columns = Columns::filled(length, 0);
+    columns.bases.fill_with(|| rng.pick(b"ACGT"));
+    columns.quals.fill_with(|| 20 + rng.below(26) as u8);
+    columns.depths.fill_with(|| 1 + rng.below(8) as u16);
+    columns.errors.fill_with(|| rng.below(2) as u16);
+    columns
+}
+
+/// Two strands that agree at so many positions in a hundred.
 fn pair(rng: &mut Rng, agreeing: usize) -> Pair {
-    let mut strand = || {
-        let mut columns = Columns::filled(MAX_POSITIONS, 0);
-        columns.bases.fill_with(|| rng.pick(b"ACGT"));
-        columns.quals.fill_with(|| 20 + rng.below(26) as u8);
-        columns.depths.fill_with(|| 1 + rng.below(8) as u16);
-        columns.errors.fill_with(|| rng.below(2) as u16);
-        columns
-    };
-    let (first, mut second) = (strand(), strand());
+    let (first, mut second) = (strand(rng, MAX_POSITIONS), strand(rng, MAX_POSITIONS));
     for (base, &other) in second.bases.iter_mut().zip(&first.bases) {
         let differing: Vec<u8> =
             b"ACGT".iter().copied().filter(|&letter| letter != other).collect();
