@@ -21,7 +21,9 @@ pub fn with_plain(seed: u64, families: usize) -> Result<(), String> {
             |call: &Call| Answerer(Some(Reader(None))).block(form, call, &mut Ledger::default());
         report(form, &calls, &expected, &found, TRIES_WITHIN, answer)?;
         if form == Form::Family {
-            endings(&expected);
+            let mut endings = Endings::default();
+            endings.count(&calls, &expected);
+            endings.show();
         }
     }
     println!(
@@ -42,13 +44,16 @@ pub fn with_program_on(
 ) -> Result<(), String> {
     let mut generated = Calls::new(seed).take(families).peekable();
     let mut ledger = Ledger::default();
+    let mut endings = Endings::default();
     while generated.peek().is_some() {
         let mut calls: Vec<Call> = generated.by_ref().take(AT_ONCE).collect();
         calls[0].ledger.get_or_insert(ledger);
         let expected = with_calls(form, program, &calls)?;
         ledger = ledger_of(expected.last()).unwrap_or(ledger);
+        endings.count(&calls, &expected);
     }
     println!("{program}: {families} families of seed {seed}: no difference");
+    endings.show();
     Ok(())
 }
 
@@ -139,17 +144,31 @@ fn first_lines(expected: &str, found: &str) -> String {
     )
 }
 
-/// How many families end in which way.
-fn endings(blocks: &[String]) {
-    let mut counts: BTreeMap<String, usize> = BTreeMap::new();
-    for block in blocks {
-        let line = block.lines().next().unwrap_or_default();
-        let fields: Vec<&str> = line.split(' ').skip(1).collect();
-        let key = if fields[0] == "called" { &fields[..1] } else { &fields[..fields.len().min(2)] };
-        *counts.entry(key.join(" ")).or_default() += 1;
+/// How many families end in which way, those that are called by the orientation of R1's and R2's longest.
+#[derive(Default)]
+struct Endings(BTreeMap<String, usize>);
+
+impl Endings {
+    fn count(&mut self, calls: &[Call], blocks: &[String]) {
+        for (call, block) in calls.iter().zip(blocks) {
+            *self.0.entry(ending(call, block)).or_default() += 1;
+        }
     }
-    let shown: Vec<String> = counts.iter().map(|(ending, n)| format!("{ending}: {n}")).collect();
-    println!("endings: {}", shown.join(", "));
-    let called = counts.get("called").copied().unwrap_or(0);
-    println!("called: {:.1} in a hundred", 100.0 * called as f64 / blocks.len().max(1) as f64);
+
+    fn show(&self) {
+        let shown: Vec<String> = self.0.iter().map(|(way, n)| format!("{way}: {n}")).collect();
+        println!("endings: {}", shown.join(", "));
+    }
+}
+
+fn ending(call: &Call, block: &str) -> String {
+    let line = block.lines().next().unwrap_or_default();
+    let fields: Vec<&str> = line.split(' ').skip(1).collect();
+    if !matches!(fields[0], "called" | "kept") {
+        return fields[..fields.len().min(2)].join(" ");
+    }
+    let sign = |reverse: bool| if reverse { '-' } else { '+' };
+    let chosen = Reader(None).chosen(&call.family);
+    let signs: String = chosen.map(|c| c.reverse.map(sign)).iter().flatten().collect();
+    format!("{} {signs}", fields[0])
 }
