@@ -176,9 +176,9 @@ struct codec_ffi_family_answer {
 /*
  * A whole family. Lengths are counts of elements; depths and errors are 16-bit numbers here. The columns of a strand that
  * is absent, its `has_` 0, are not read. Lent room: at least 2,048 places in each column of d (the duplex), s1 and s2 (R1's and
- * R2's strand under it), 512 in listed and reasons, 8 words in marks. The answer fills the first places of each, what lies
- * beyond stays as it is. No pointer is null, also where its length is 0, nothing that is written overlaps anything else, and
- * each `bool` is 0 or 1.
+ * R2's strand under it), 512 in listed and reasons, 8 words in marks. The list gives each rejected record with its reason, by
+ * rising record number. The answer fills the first places of each, what lies beyond stays as it is. No pointer is null, also
+ * where its length is 0, nothing that is written overlaps anything else, and each `bool` is 0 or 1.
  */
 struct codec_ffi_family_answer codec_ffi_family(
     const struct codec_ffi_record *records, size_t records_len,

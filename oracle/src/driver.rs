@@ -141,6 +141,7 @@ pub fn to_strand(columns: Columns) -> Strand {
     }
 }
 
+/// The original rejects in an order of its own; the list is by record.
 fn list(seen: &Seen) -> Vec<(usize, u8)> {
     let rejected = seen.trace.rejected.iter();
     let mut list: Vec<_> = rejected.map(|&(record, reason)| (record, number(reason))).collect();

@@ -21,7 +21,7 @@ use Rattle.codec_framing.specs.Framing.{tallyOf, DuplexRoom, Framable, Framed}
 use Rattle.codec_strands.specs.Strands.{Within, Room as Roomy}
 use Rattle.codec_rejects.specs.Fates.{AreFates, settled, rejections}
 use Rattle.codec_rejects.specs.Handover.{markWords, listedRecords, listedReasons}
-use Rattle.codec_rejects.proofs.Listing.{listed}
+use Rattle.codec_rejects.proofs.Listing.{length-handover}
 use Rattle.codec_rejects.proofs.Settling.{length-settled}
 use Rattle.codec_select.specs.Records.{blank}
 use Rattle.codec_select.specs.declared.options.Options.{Options}
@@ -275,11 +275,13 @@ module _ (table : List Record) (len : ℕ) (o : Options) (ops : List ℕ) (hasR1
                 results = record {
                   ended = ended ∙ ap reported (ending-of ∙ sym (ending-is call ledger stands));
                   marks = settles .marks-written ∙ ap (λ (own-fates : List ℕ). written (markWords own-fates) (lent .marks)) settled-is ∙ sym (marks-are call ledger stands (lent .marks));
-                  list =
+                  list-length = rw (fates-are call ledger stands) (many ∙ settles .list-length ∙ ap rejections settled-is ∙ sym (length-handover (fates call)));
+                  list-records =
                       rw (fates-are call ledger stands)
-                      (listed (fates call) (many ∙ settles .list-length ∙ ap rejections settled-is)
-                      (settles .records-written ∙ ap (λ (own-fates : List ℕ). written (listedRecords own-fates) (lent .listedRecords)) settled-is)
-                      (settles .reasons-written ∙ ap (λ (own-fates : List ℕ). written (listedReasons own-fates) (lent .listedReasons)) settled-is));
+                      (settles .records-written ∙ ap (λ (own-fates : List ℕ). written (listedRecords own-fates) (lent .listedRecords)) settled-is);
+                  list-reasons =
+                      rw (fates-are call ledger stands)
+                      (settles .reasons-written ∙ ap (λ (own-fates : List ℕ). written (listedReasons own-fates) (lent .listedReasons)) settled-is);
                   duplex-bases = written-if (duplexOf call .bases) (lent .duplex .bases) (d′ .bases) (λ e. ap Duplex.bases (filled-as e .duplex)) (λ e. ap Duplex.bases (columns .untouched e .0));
                   duplex-quals = written-if (duplexOf call .quals) (lent .duplex .quals) (d′ .quals) (λ e. ap Duplex.quals (filled-as e .duplex)) (λ e. ap Duplex.quals (columns .untouched e .0));
                   duplex-depths = written-if (duplexOf call .depths) (lent .duplex .depths) (d′ .depths) (λ e. ap Duplex.depths (filled-as e .duplex)) (λ e. ap Duplex.depths (columns .untouched e .0));

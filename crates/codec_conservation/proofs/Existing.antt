@@ -2,14 +2,12 @@
 use mathlib.Core.List.{List, [], _∷_}
 use mathlib.Core.Path.{_≡_, refl, sym, ap}
 use Prim.Native.Nat.{ℕ}
-use lib.ListN.{replicate, length-replicate}
+use lib.ListN.{length, replicate, length-replicate}
 use Rattle.lists.specs.Written.{written}
 use Rattle.caller.specs.declared.refusal.Refusal.{Refusal}
 use Rattle.codec_duplex.specs.Columns.{Strand, strand}
 use Rattle.codec_duplex.specs.Duplex.{Duplex, duplex}
-use Rattle.codec_rejects.specs.Fates.{rejections}
-use Rattle.codec_rejects.specs.Handover.{listedRecords, listedReasons}
-use Rattle.codec_rejects.proofs.Listing.{listed}
+use Rattle.codec_rejects.specs.Handover.{handover, listedRecords, listedReasons}
 use Rattle.codec_stats.specs.Ledger.{fresh}
 use Rattle.codec_stats.specs.declared.ledger.Ledger.{Ledger}
 use Rattle.codec_family.specs.Answer.{reported}
@@ -53,7 +51,7 @@ module _ (c : Call) (r : Refusal) where
       (columnAfter c r (result .depths) (old .depths)) (columnAfter c r (result .errors) (old .errors))
 
   abbrev pub answerTo : Ledger → FamilyAnswer
-  answerTo ledger′ = record { ending = reported (endingWith c r); listed = rejections (fatesWith c r); ledger = ledger′ }
+  answerTo ledger′ = record { ending = reported (endingWith c r); listed = length (handover (fatesWith c r)); ledger = ledger′ }
 
   -- a call that does what the contract says, its refusal and the ledger after it given
   abbrev pub makeBy : Ledger → Made
@@ -77,7 +75,9 @@ module _ (c : Call) (r : Refusal) where
       record {
         ended = refl;
         marks = refl;
-        list = listed (fatesWith c r) refl refl refl;
+        list-length = refl;
+        list-records = refl;
+        list-reasons = refl;
         duplex-bases = refl;
         duplex-quals = refl;
         duplex-depths = refl;

@@ -5,13 +5,10 @@ use mathlib.Core.Path.{_≡_, refl}
 use Prim.Native.Nat.{ℕ}
 use Rattle.lists.specs.Written.{written}
 use Rattle.lists.specs.Numbers.{numbersFrom}
-use Rattle.lists.specs.Total.{total}
 use Rattle.caller.specs.Refusals.{isRefusal, refusedIf}
 use Rattle.caller.specs.declared.refusal.Refusal.the-variants as refusals
 use Rattle.caller.proofs.Refusals.{neither-refuses}
-use Rattle.codec_rejects.specs.Fates.{rejections}
-use Rattle.codec_rejects.specs.Handover.{markWords, listedRecords, listedReasons, Listed}
-use Rattle.codec_rejects.proofs.Listing.{listed}
+use Rattle.codec_rejects.specs.Handover.{markWords, handover, listedRecords, listedReasons}
 use Rattle.codec_stats.specs.Ledger.{plus}
 use Rattle.codec_stats.specs.declared.ledger.Ledger.{Ledger}
 use Rattle.codec_family.specs.Call.{Call, Lent}
@@ -34,11 +31,6 @@ pub call-stands : (c : Call) (ledger : Ledger) → isRefusal (refusal c ledger) 
 unfolding refusal
 call-stands c ledger none = neither-refuses (ofCall c) _ none .0
 
--- an empty list, and columns that are untouched
-none-listed : (records reasons : List ℕ) → Listed [] 0 records reasons records reasons
-unfolding rejections total listedRecords listedReasons numbersFrom
-none-listed records reasons = listed [] refl refl refl
-
 -- 'A refusal leaves everything as it was'
 module _ (c : Call) (lent : Lent) (ledger : Ledger) (number given : ℕ) where
   untouched : (result old : List ℕ) → old ≡ columnAfter c (refusals.Refused number given) result old
@@ -46,12 +38,14 @@ module _ (c : Call) (lent : Lent) (ledger : Ledger) (number given : ℕ) where
   untouched result old = refl
 
   pub refused-results : Results c (refusals.Refused number given) lent (refusedAnswer ledger number given) lent
-  unfolding endingWith fatesWith marksAfter
+  unfolding endingWith fatesWith marksAfter handover listedRecords listedReasons numbersFrom
   refused-results =
       record {
         ended = refl;
         marks = refl;
-        list = none-listed (lent .listedRecords) (lent .listedReasons);
+        list-length = refl;
+        list-records = refl;
+        list-reasons = refl;
         duplex-bases = untouched _ _;
         duplex-quals = untouched _ _;
         duplex-depths = untouched _ _;

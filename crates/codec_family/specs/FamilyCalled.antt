@@ -3,11 +3,12 @@ use mathlib.Core.Bool.{cond}
 use mathlib.Core.List.{List, []}
 use mathlib.Core.Path.{_≡_}
 use Prim.Native.Nat.{ℕ}
+use lib.ListN.{length}
 use Rattle.lists.specs.Written.{written}
 use Rattle.caller.specs.Refusals.{isRefusal}
 use Rattle.caller.specs.declared.refusal.Refusal.{Refusal}
 use Rattle.caller.specs.declared.refusal.Refusal.the-variants.{NoRefusal, Refused}
-use Rattle.codec_rejects.specs.Handover.{markWords, Listed}
+use Rattle.codec_rejects.specs.Handover.{markWords, handover, listedRecords, listedReasons}
 use Rattle.codec_stats.specs.declared.ledger.Ledger.{Ledger}
 use Rattle.codec_family.specs.Answer.{reported}
 use Rattle.codec_family.specs.Call.{Call, Lent}
@@ -44,11 +45,14 @@ marksAfter c r old = cond (isRefusal r) old (written (markWords (fates c)) old)
 unfoldable pub columnAfter : Call → Refusal → (result old : List ℕ) → List ℕ
 columnAfter c r result old = cond (isCalled (endingWith c r)) (written result old) old
 
--- all but the ledger, the call's refusal given: the ending, the marks, what is true of the list and its length, and the twelve columns
+-- all but the ledger, the call's refusal given: the ending, the marks, the list's length and its two columns, and the twelve columns
 pub record Results (c : Call) (r : Refusal) (before : Lent) (answer : FamilyAnswer) (after : Lent) : Type 0 where
   pub ended : answer .ending ≡ reported (endingWith c r)
   pub marks : after .marks ≡ marksAfter c r (before .marks)
-  pub list : Listed (fatesWith c r) (answer .listed) (before .listedRecords) (before .listedReasons) (after .listedRecords) (after .listedReasons)
+  -- 'It fills the first places of two columns, record and reason'; 'what lies beyond, in list and marks too, is untouched'
+  pub list-length : answer .listed ≡ length (handover (fatesWith c r))
+  pub list-records : after .listedRecords ≡ written (listedRecords (fatesWith c r)) (before .listedRecords)
+  pub list-reasons : after .listedReasons ≡ written (listedReasons (fatesWith c r)) (before .listedReasons)
   pub duplex-bases : after .duplex .bases ≡ columnAfter c r (duplexOf c .bases) (before .duplex .bases)
   pub duplex-quals : after .duplex .quals ≡ columnAfter c r (duplexOf c .quals) (before .duplex .quals)
   pub duplex-depths : after .duplex .depths ≡ columnAfter c r (duplexOf c .depths) (before .duplex .depths)

@@ -10,8 +10,7 @@ ghost use lib.ListN.{length, take};
 ghost use Rattle.lists.specs.Total.{total};
 ghost use Rattle.lists.specs.Written.{written};
 ghost use Rattle.caller.specs.Fates.{isMarked};
-ghost use Rattle.codec_rejects.specs.Fates.{rejections};
-ghost use Rattle.codec_rejects.specs.Handover.{markWords, listedRecords, listedReasons};
+ghost use Rattle.codec_rejects.specs.Handover.{markWords, handover, listedRecords, listedReasons};
 
 // A flag a record, set where it is marked.
 fn flag_marked(fates: &[u8], flags: &mut [bool])
@@ -66,7 +65,7 @@ pub fn write_list(fates: &[u8], records: &mut [u32], reasons: &mut [u8]) -> usiz
     requires { ⌜ length (now fates) ≤ 512 ⌝ }
     requires { ⌜ length (now fates) ≤ length (now records) ⌝ }
     requires { ⌜ length (now fates) ≤ length (now reasons) ⌝ }
-    ensures { λ r. ⌜ r ≡ rejections (now (fates .entry)) ⌝ }
+    ensures { λ r. ⌜ r ≡ length (handover (now (fates .entry))) ⌝ }
     ensures { λ _. ⌜ now (records .exit) ≡ written (listedRecords (now (fates .entry))) (now (records .entry)) ⌝ }
     ensures { λ _. ⌜ now (reasons .exit) ≡ written (listedReasons (now (fates .entry))) (now (reasons .entry)) ⌝ }
 {

@@ -116,13 +116,10 @@ impl Room {
         }
     }
 
-    /// Whether list and marks are these, the list in any order, and nothing beyond was touched.
+    /// Whether list and marks are these, place by place, and nothing beyond was touched.
     pub fn lists(&self, list: &[(usize, u8)], marks: &[u64]) -> bool {
         let listed = self.listed.first(list.len()).iter().map(|&record| record as usize);
-        let mut found: Vec<_> =
-            listed.zip(self.reasons.first(list.len()).iter().copied()).collect();
-        found.sort_unstable();
-        found == list
+        listed.zip(self.reasons.first(list.len()).iter().copied()).eq(list.iter().copied())
             && self.listed.untouched_but(list.len())
             && self.reasons.untouched_but(list.len())
             && self.marks.holds(marks)

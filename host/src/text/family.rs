@@ -53,12 +53,9 @@ impl Buffers {
         Lent { duplex, r1, r2, listed, reasons, marks }
     }
 
-    /// The list by record.
+    /// The list, place by place.
     pub fn list(&self, listed: usize) -> Vec<(u32, u8)> {
-        let pairs = self.listed.iter().copied().zip(self.reasons.iter().copied());
-        let mut list: Vec<_> = pairs.take(listed).collect();
-        list.sort_unstable();
-        list
+        self.listed.iter().copied().zip(self.reasons.iter().copied()).take(listed).collect()
     }
 
     /// Puts the answer's places back to what they were: afterwards both are equal, or more than the answer was written.

@@ -6,7 +6,7 @@ use codec_host::text::Columns;
 use codec_host::text::family::Call;
 use codec_host::{Ending, Ledger, MAX_RECORDS, Options, Reason, Room, Strand, family};
 
-/// List by record, and the marked records.
+/// The list, and the marked records.
 fn rejects(call: &Call) -> (Vec<(u32, u8)>, Vec<usize>) {
     let (answer, buffers) = asked(call);
     let marked = |record: &usize| buffers.marks[record / 64] >> (record % 64) & 1 == 1;
@@ -251,8 +251,7 @@ fn room_has_what_a_call_needs() {
     assert_eq!((room.rejects(answer.listed).count(), room.marks()), (0, &[0; 8]));
     let options = Options { min_duplex_length: 6, ..call.options };
     let answer = family(&call.records, &call.ops, &options, r1, r2, answer.ledger, room.lend());
-    let mut rejects: Vec<_> = room.rejects(answer.listed).collect();
-    rejects.sort_unstable_by_key(|reject| reject.0);
+    let rejects: Vec<_> = room.rejects(answer.listed).collect();
     assert_eq!(rejects, (0..4).map(|r| (r, Reason::InsufficientOverlap)).collect::<Vec<_>>());
     assert!(room.is_marked(3) && !room.is_marked(4) && !room.is_marked(9_999));
 }

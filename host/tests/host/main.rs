@@ -5,6 +5,7 @@ mod call;
 mod columns;
 mod family;
 mod family_call;
+mod family_list;
 mod family_refusals;
 mod limits;
 mod positions;

@@ -6,15 +6,14 @@ use Prim.Native.Nat.{ℕ, _-_, _≤_}
 use native.Mathlib.Nat.{sub-zero}
 use native.Mathlib.Omega.{arith}
 use borrow.Author.Needs.{needs}
-use lib.ListN.{length, getD, length-append, length-map}
+use lib.ListN.{length, getD, set, length-append, length-map}
 use Rattle.lists.specs.Numbers.{numbersFrom}
 use Rattle.lists.specs.Written.{written}
 use Rattle.lists.proofs.Map.{written-map-more}
 use Rattle.lists.proofs.Numbers.{numbers-yes, numbers-no, numbers-end}
 use Rattle.lists.proofs.Written.{length-written, written-more}
 use Rattle.caller.specs.Fates.{isRejection}
-use Rattle.codec_rejects.specs.Handover.{listedRecords, listedReasons}
-use Rattle.codec_rejects.proofs.Listing.{length-listed}
+use Rattle.codec_rejects.proofs.Listing.{rejected, length-entries, records-rejected, reasons-rejected}
 use Rattle.codec_rejects.proofs.rejects.write_list.Statement.{statement}
 use Rattle.codec_rejects.proofs.rejects.write_list.Tie as tie
 
@@ -22,7 +21,7 @@ abbrev Inv-loop : tie.InvT-loop
 Inv-loop fates records₀ reasons₀ count₀ i₀ records reasons count i =
     (done : List ℕ)
     × (i ≤ length fates)
-    × (done ++ numbersFrom (λ k. isRejection (getD fates k 0)) i (length fates - i) ≡ listedRecords fates)
+    × (done ++ numbersFrom (λ k. isRejection (getD fates k 0)) i (length fates - i) ≡ rejected fates)
     × (count ≡ length done)
     × (count ≤ i)
     × (records ≡ written done records₀)
@@ -44,7 +43,6 @@ kept-reasons c =
     ap length (c .loop .inv .6) ∙ length-written (map fate (c .loop .inv .0)) (start .args .reasons .now) (omega (arith, length-map (c .loop .inv .0) fate, start .pre .1 .1))
 
 loop-holds : tie.Need-loop-holds Inv-loop μ-loop
-unfolding listedRecords
 loop-holds c = ([], omega arith, rw sub-zero, refl, omega arith, refl, refl)
 
 shared-slice-read-fate : tie.Need-shared-slice-read-fate Inv-loop μ-loop
@@ -74,6 +72,10 @@ add-i c = omega arith
 loop-less : tie.Need-loop-less Inv-loop μ-loop
 loop-less c = omega arith
 
+-- a store behind the entries that stand
+stored : (v : ℕ) {column column′ : List ℕ} {count n : ℕ} → column ≡ column′ → count ≡ n → set column count v ≡ set column′ n v
+stored v same as-many = rw (same, as-many)
+
 loop-again : tie.Need-loop-again Inv-loop μ-loop
 loop-again c =
     let at = c .before .before .before .before in
@@ -82,6 +84,8 @@ loop-again c =
     let test = c .before .is-rejection .ensures in
     let i = at .loop .i in
     let done = at .loop .inv .0 in
+    let records = start .args .records .now in
+    let reasons = start .args .reasons .now in
     ⊎-elim
     (λ w.
     let found = numbers-yes (λ k. isRejection (getD fates k 0)) (length fates) i (omega arith) (sym test ∙ w .0 .taken) in (
@@ -90,8 +94,8 @@ loop-again c =
       append-assoc done (i ∷ []) _ ∙ ap (λ (l : List ℕ). done ++ l) (sym found) ∙ at .loop .inv .2,
       w .3 ∙ rw (at .loop .inv .3) (sym (length-append done (i ∷ []))),
       omega (arith, w .3),
-      w .1 ∙ rw (at .loop .inv .5, at .loop .inv .3) (written-more done _ i (omega (arith, start .pre .1 .0))),
-      w .2 ∙ rw (at .loop .inv .6, at .loop .inv .3) (written-map-more (λ k. getD fates k 0) done i _ (omega (arith, start .pre .1 .1))),
+      w .1 ∙ stored i (at .loop .inv .5) (at .loop .inv .3) ∙ written-more done records i (omega (arith, start .pre .1 .0)),
+      w .2 ∙ stored (getD fates i 0) (at .loop .inv .6) (at .loop .inv .3) ∙ written-map-more (λ k. getD fates k 0) done i reasons (omega (arith, start .pre .1 .1)),
     ))
     (λ w.
     let passed = numbers-no (λ k. isRejection (getD fates k 0)) (length fates) i (omega arith) (sym test ∙ w .0 .left) in
@@ -105,14 +109,13 @@ same-length-2 : tie.Need-same-length-2 Inv-loop μ-loop
 same-length-2 c = kept-reasons (c .before)
 
 returns : tie.Need-returns Inv-loop μ-loop
-unfolding listedReasons
 returns c =
     let at = c .before in
     let fates = at .before .before .before .before .args .fates .now in
     let done = at .loop .inv .0 in
     let end = numbers-end (λ k. isRejection (getD fates k 0)) (length fates) (at .loop .i) (omega arith) in
-    let all : done ≡ listedRecords fates = sym (append-nil done) ∙ rw end at (at .loop .inv .2) in
-    (at .loop .inv .3 ∙ ap length all ∙ length-listed fates, (rw all at (at .loop .inv .5), rw all at (at .loop .inv .6)))
+    let all : done ≡ rejected fates = sym (append-nil done) ∙ rw end at (at .loop .inv .2) in
+    (at .loop .inv .3 ∙ ap length all ∙ sym (length-entries fates), (rw records-rejected (rw all at (at .loop .inv .5)), rw reasons-rejected (rw all at (at .loop .inv .6))))
 
 pub write-list-spec : {M : Type 1} → statement M
 write-list-spec =
