@@ -211,4 +211,35 @@ struct codec_ffi_family_answer codec_ffi_family(
     uint8_t *reasons, size_t reasons_len,
     uint64_t *marks, size_t marks_len);
 
+/* How many families of each lane wait, and the lane served last. Each call gives the dispatcher for the next one. */
+struct codec_ffi_dispatcher {
+    uint16_t waiting[8];
+    uint32_t last;
+};
+
+enum codec_ffi_dispatch_kind {
+    CODEC_FFI_DISPATCH_ADDED = 0,
+    CODEC_FFI_DISPATCH_SERVED = 1,  /* the lane whose family is next */
+    CODEC_FFI_DISPATCH_IDLE = 2,    /* no lane waits */
+    CODEC_FFI_DISPATCH_REFUSED = 3, /* refusal 22 or 23 with 0: the dispatcher is the one given */
+};
+
+/* Fields that do not belong to the kind are 0. */
+struct codec_ffi_dispatch_answer {
+    uint32_t kind;
+    uint32_t lane;
+    uint32_t number;
+    uint64_t with;
+    struct codec_ffi_dispatcher dispatcher;
+};
+
+/* No family waits, and lane 7 is the one served last. */
+struct codec_ffi_dispatcher codec_ffi_fresh_dispatcher(void);
+
+/* A family of the lane waits. 22: the lane, or the one served last, is above 7. 23: 65,535 families of it wait. */
+struct codec_ffi_dispatch_answer codec_ffi_add(struct codec_ffi_dispatcher dispatcher, uint32_t lane);
+
+/* The first waiting lane after the one served last, in a circle: its count is lowered, also if its family is then refused. */
+struct codec_ffi_dispatch_answer codec_ffi_turn(struct codec_ffi_dispatcher dispatcher);
+
 #endif

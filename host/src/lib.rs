@@ -1,4 +1,4 @@
-//! The proved calls of a CODEC duplex caller, from Rust: a whole family, selection alone, and the combining step.
+//! The proved calls of a CODEC duplex caller, from Rust: a whole family, selection alone, the combining step, and the turns of eight lanes.
 //!
 //! [`family`] stands in the place of the original's `consensus_reads_raw`: records and strands in, the duplex, the rejected
 //! records and the next [`Ledger`] out. It takes all room from the caller, allocates nothing and does not panic.
@@ -96,13 +96,35 @@
 //! };
 //! assert_eq!((start, end, length), (105, 109, 15));
 //! ```
+//!
+//! [`Dispatcher`] says whose family is next where eight lanes feed one caller. A lane that waits is served within eight turns,
+//! and a refused family has used its turn.
+//!
+//! ```
+//! use codec_host::{Dispatcher, Turn};
+//!
+//! let mut dispatcher = Dispatcher::default();
+//! for lane in [3, 3, 0, 7] {
+//!     dispatcher.add(lane)?;
+//! }
+//! let mut served = Vec::new();
+//! while let Turn::Lane(lane) = dispatcher.turn()? {
+//!     served.push(lane);
+//! }
+//! assert_eq!(served, [0, 3, 7, 3]);
+//! assert_eq!(dispatcher.last, 3);
+//! assert_eq!(dispatcher.add(8).map_err(|refusal| refusal.number), Err(22));
+//! # Ok::<(), codec_host::Refusal>(())
+//! ```
 
+mod dispatch;
 mod family;
 mod room;
 mod select;
 mod sys;
 pub mod text;
 
+pub use dispatch::{Dispatcher, LANES, Turn};
 pub use family::{
     Ending, FamilyAnswer, LIST_PLACES, Ledger, Lent, MARK_WORDS, Rates, Reason, Refusal, family,
 };

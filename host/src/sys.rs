@@ -1,5 +1,6 @@
 //! The exported calls as the linker sees them: a slice is a pointer and a count.
 
+use crate::dispatch::Dispatcher;
 use crate::family::Ledger;
 use crate::select::Record;
 
@@ -73,7 +74,22 @@ pub struct FamilyAnswer {
     pub ledger: Ledger,
 }
 
+#[repr(C)]
+pub struct DispatchAnswer {
+    pub kind: u32,
+    pub lane: u32,
+    pub number: u32,
+    pub with: u64,
+    pub dispatcher: Dispatcher,
+}
+
 unsafe extern "C" {
+    pub fn codec_ffi_fresh_dispatcher() -> Dispatcher;
+
+    pub fn codec_ffi_add(dispatcher: Dispatcher, lane: u32) -> DispatchAnswer;
+
+    pub fn codec_ffi_turn(dispatcher: Dispatcher) -> DispatchAnswer;
+
     pub fn codec_ffi_select(
         records: *const Record,
         records_len: usize,

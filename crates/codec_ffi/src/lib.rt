@@ -1,7 +1,8 @@
-// What a Rust or C host calls: the combining step through numbers and byte slices; on a slice of records, selection alone and the family call; the ledger's rates.
+// What a Rust or C host calls: the combining step through numbers and byte slices; on a slice of records, selection alone and the family call; the ledger's rates; the turns of eight lanes.
 pub mod answer;
 pub mod columns;
 pub mod combine;
+pub mod dispatch;
 pub mod family;
 pub mod rates;
 pub mod select;

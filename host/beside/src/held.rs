@@ -4,11 +4,12 @@ use crate::guarded::{Room, Strand};
 use crate::noise::Hostile;
 use codec_host::text::Columns;
 use codec_host::{
-    Answer, Ending, FamilyAnswer, Ledger, Limits, Options, Rates, Reason, Record, Refusal,
-    Selection, combine, family, select,
+    Answer, Dispatcher, Ending, FamilyAnswer, Ledger, Limits, Options, Rates, Reason, Record,
+    Refusal, Selection, Turn, combine, family, select,
 };
 use oracle::model;
 use oracle::plain::Reader;
+use oracle::plain::lanes::Lanes;
 use oracle::plain::position::{Limit, tallies};
 use original::codec_caller::CodecConsensusStats;
 
@@ -224,4 +225,37 @@ pub fn rates(counts: [u64; 20]) -> Result<bool, String> {
         same(&rates.rate.to_bits(), &stats.duplex_disagreement_rate().to_bits())?;
     }
     Ok(found.is_ok())
+}
+
+/// An add and a turn of the same dispatcher; what the turn came to, or what is wrong.
+pub fn turns(lanes: Lanes, lane: u32) -> Result<String, String> {
+    let given = Dispatcher { waiting: lanes.waiting, last: lanes.last };
+    let left = |d: Dispatcher| Lanes { waiting: d.waiting, last: d.last };
+    let mut dispatcher = given;
+    let found = dispatcher.add(lane);
+    let expected = lanes.add(lane);
+    let answer = expected.map(|_| ()).map_err(|number| Refusal { number, with: 0 });
+    if (found, left(dispatcher)) != (answer, expected.unwrap_or(lanes)) {
+        return Err(format!(
+            "add {lane} answers {found:?} and leaves {dispatcher:?}, not {expected:?}"
+        ));
+    }
+    let mut dispatcher = given;
+    let found = dispatcher.turn();
+    let expected = lanes.turn();
+    let answer = match expected {
+        Ok((served, _)) => Ok(served.map_or(Turn::Idle, |lane| Turn::Lane(lane as usize))),
+        Err(number) => Err(Refusal { number, with: 0 }),
+    };
+    let after = expected.map_or(lanes, |(_, after)| after);
+    if (found, left(dispatcher)) != (answer, after) {
+        return Err(format!(
+            "a turn answers {found:?} and leaves {dispatcher:?}, not {expected:?}"
+        ));
+    }
+    Ok(match found {
+        Ok(Turn::Lane(_)) => "turn served".to_string(),
+        Ok(Turn::Idle) => "turn idle".to_string(),
+        Err(refusal) => format!("turn refused {}", refusal.number),
+    })
 }

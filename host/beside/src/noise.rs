@@ -3,6 +3,7 @@
 use crate::guarded::Lengths;
 use crate::rng::Rng;
 use oracle::model::{Family, Ledger, Options, Record, Strand};
+use oracle::plain::lanes::Lanes;
 
 /// The least lengths that are no refusal.
 pub const ROOM: Lengths = [
@@ -217,6 +218,18 @@ fn break_record(rng: &mut Rng, family: &mut Family) {
         8 => record.count = other.count,
         _ => *record = other,
     }
+}
+
+/// A dispatcher with counts at their edges, and a lane to add to.
+pub fn lanes(rng: &mut Rng) -> (Lanes, u32) {
+    let edges = [0, 0, 0, 1, 65_534, 65_535];
+    let lane = |rng: &mut Rng| rng.pick(&[0, 1, 2, 3, 4, 5, 6, 7, 7, 8, 9, u32::MAX]);
+    let mut waiting = [(); 8].map(|()| rng.pick(&edges));
+    if rng.chance(20) {
+        waiting = [0; 8];
+        waiting[rng.below(8)] = rng.pick(&edges);
+    }
+    (Lanes { waiting, last: lane(rng) }, lane(rng))
 }
 
 fn break_word(rng: &mut Rng, family: &mut Family) {

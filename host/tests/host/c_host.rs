@@ -40,6 +40,11 @@ fn a_c_program_gets_every_ending() {
 }
 
 #[test]
+fn a_c_program_takes_turns() {
+    runs("dispatch");
+}
+
+#[test]
 fn a_c_program_calls_a_family() {
     let output = run("examples/family.c");
     assert!(output.status.success());

@@ -3,6 +3,7 @@
 mod c_host;
 mod call;
 mod columns;
+mod dispatch;
 mod family;
 mod family_call;
 mod family_list;

@@ -3,6 +3,7 @@
 mod cigar;
 mod columns;
 mod group;
+pub mod lanes;
 pub mod ledger;
 mod pairs;
 pub mod position;

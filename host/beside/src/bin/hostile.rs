@@ -115,6 +115,13 @@ fn ask_rates(rng: &mut Rng, tally: &mut Tally) -> Result<(), String> {
     Ok(())
 }
 
+fn ask_turns(rng: &mut Rng, tally: &mut Tally) -> Result<(), String> {
+    let (lanes, lane) = noise::lanes(rng);
+    let end = held::turns(lanes, lane).map_err(|e| format!("{lanes:?}\n{e}"))?;
+    tally.add(end);
+    Ok(())
+}
+
 fn run() -> Result<(), String> {
     let mut words = std::env::args().skip(1).map(|word| word.parse::<u64>());
     let mut number = |otherwise| words.next().unwrap_or(Ok(otherwise)).map_err(|e| e.to_string());
@@ -135,6 +142,9 @@ fn run() -> Result<(), String> {
         }
         if rng.chance(10) {
             ask_rates(&mut rng, &mut tally)?;
+        }
+        if rng.chance(20) {
+            ask_turns(&mut rng, &mut tally)?;
         }
     }
     let ends: Vec<String> = tally.ends.iter().map(|(end, n)| format!("{end}: {n}")).collect();

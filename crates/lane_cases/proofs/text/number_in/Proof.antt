@@ -1,0 +1,47 @@
+-- Every byte is read once.
+use Prim.Native.Nat.{_≤_, _-_}
+use lib.ListN.{length}
+use borrow.Author.Needs.{needs}
+use Rattle.lane_cases.proofs.text.number_in.Statement.{statement}
+use Rattle.lane_cases.proofs.text.number_in.Tie as tie
+
+abbrev Inv-loop : tie.InvT-loop
+Inv-loop line n₀ i₀ n i = i ≤ length line
+
+abbrev μ-loop : tie.MeasureT-loop
+μ-loop line n₀ i₀ n i = length line - i
+
+loop-holds : tie.Need-loop-holds Inv-loop μ-loop
+loop-holds c = search needs
+
+shared-slice-read-c : tie.Need-shared-slice-read-c Inv-loop μ-loop
+shared-slice-read-c c = search needs
+
+with-digit-requires : tie.Need-with-digit-requires Inv-loop μ-loop
+with-digit-requires c κs = search needs
+
+add-i : tie.Need-add-i Inv-loop μ-loop
+add-i c = search needs
+
+loop-less : tie.Need-loop-less Inv-loop μ-loop
+loop-less c = search needs
+
+loop-again : tie.Need-loop-again Inv-loop μ-loop
+loop-again c = search needs
+
+returns : tie.Need-returns Inv-loop μ-loop
+returns c = search needs
+
+pub number-in-spec : {M : Type 1} → statement M
+number-in-spec =
+    tie.close
+    (tie.spec
+    Inv-loop
+    μ-loop
+    loop-holds
+    shared-slice-read-c
+    with-digit-requires
+    add-i
+    loop-less
+    loop-again
+    returns)
