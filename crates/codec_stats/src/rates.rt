@@ -3,7 +3,7 @@ use crate::ledger::Ledger;
 use crate::refusals::is_too_large;
 ghost use mathlib.Core.Bool.{false};
 ghost use mathlib.Core.Path.{_≡_};
-ghost use Prim.Native.Nat.{ℕ, _≤_, _^_};
+ghost use Prim.Native.Nat.{ℕ, _+_, _*_, _≤_, _<_, _^_};
 ghost use lib.ListN.{getD};
 ghost use Rattle.lists.specs.Total.{total};
 ghost use Rattle.codec_stats.specs.Ledger as defs;
@@ -50,15 +50,42 @@ pub fn duplex_disagreement_rate(ledger: Ledger) -> f64
     (ledger.disagreements as f64) / (ledger.duplex_bases as f64)
 }
 
-// The same rate in whole numbers, rounded down.
+// A remainder of a division by at most 2^41, with a digit 0 after it: the only product, and it has at most 45 bits.
+fn tenfold(rest: u64) -> u64
+    requires { ⌜ rest < 2 ^ 41 ⌝ }
+    ensures { λ r. ⌜ (r ≡ rest * 10) × (r < 2 ^ 45) ⌝ }
+{
+    rest * 10
+}
+
+// One digit more, by shifts and additions: 8 and 2 times the number are 10 times.
+fn with_digit(number: u64, digit: u64) -> u64
+    requires { ⌜ number * 10 + digit < 2 ^ 61 ⌝ }
+    ensures { λ r. ⌜ r ≡ number * 10 + digit ⌝ }
+{
+    (number << 3) + (number << 1) + digit
+}
+
+// The same rate in whole numbers, rounded down: a long division with six digits after the point, for a board without a wide multiply.
 pub fn millionths(ledger: Ledger) -> u64
     requires { ⌜ defs.tooLarge ledger ≡ false ⌝ }
     ensures { λ r. ⌜ r ≡ defs.millionths ledger ⌝ }
 {
-    if ledger.duplex_bases == 0 {
+    let disagreements = ledger.disagreements;
+    let bases = ledger.duplex_bases;
+    if bases == 0 {
         return 0;
     }
-    ledger.disagreements * 1000000 / ledger.duplex_bases
+    let mut quotient = disagreements / bases;
+    let mut rest = disagreements % bases;
+    let mut digits: usize = 0;
+    while digits < 6 {
+        let product = tenfold(rest);
+        quotient = with_digit(quotient, product / bases);
+        rest = product % bases;
+        digits += 1;
+    }
+    quotient
 }
 
 pub fn rates(ledger: Ledger) -> LedgerRates

@@ -1,5 +1,5 @@
 //! The time of one call, the exported one and the original's in turn on the same input: combining at 2,048 positions, then
-//! whole families; last the time of selection alone, by itself.
+//! whole families; last the time of selection alone and of the ledger's rates, by themselves.
 
 use beside::original_call;
 use beside::rng::Rng;
@@ -42,6 +42,7 @@ fn main() {
     families.iter().for_each(|families: &Vec<Family>| report_family(families));
     println!("{:<36}{:>10}", "selection alone, records", "exported");
     families.iter().for_each(|families| report_selection(families));
+    report_rates(&mut rng);
 }
 
 /// A family in the terms of both.
@@ -143,6 +144,19 @@ fn report_selection(families: &[Family]) {
     assert!(families.iter().all(|family| matches!(ask(family), Selection::Kept { .. })));
     let times = (0..FAMILY_ROUNDS).map(|_| per_call(families, |family| _ = black_box(ask(family))));
     println!("{:<36}{:>10.0}", families[0].records.len(), median(times.collect()));
+}
+
+/// Ledgers of a whole run: up to 2^41 duplex bases, of which up to one in 64 differs.
+fn report_rates(rng: &mut Rng) {
+    let ledger = |_| {
+        let duplex_bases = (rng.draw() >> 23) | 1;
+        Ledger { duplex_bases, disagreements: duplex_bases >> 6, ..Ledger::default() }
+    };
+    let ledgers: Vec<Ledger> = (0..PAIRS).map(ledger).collect();
+    assert!(ledgers.iter().all(|ledger| ledger.rates().is_ok()));
+    let ask = |ledger: &Ledger| _ = black_box(ledger.rates());
+    let times = (0..ROUNDS).map(|_| per_call(&ledgers, ask));
+    println!("{:<36}{:>10.0}", "ledger's rates", median(times.collect()));
 }
 
 /// Letters and qualities as sequenced.

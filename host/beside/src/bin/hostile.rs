@@ -1,4 +1,5 @@
-//! Hands the exported calls noise and broken families, and looks at every answer and every place: hostile [SEED [CALLS]]
+//! Hands the exported calls noise and broken families, and looks at every answer and every place; then the ledger's rates, pairs of
+//! counts beside 128-bit arithmetic: hostile [SEED [CALLS [PAIRS]]]
 
 use beside::guarded::{Room, Strand};
 use beside::held::{self, Hosted};
@@ -122,10 +123,26 @@ fn ask_turns(rng: &mut Rng, tally: &mut Tally) -> Result<(), String> {
     Ok(())
 }
 
+/// Disagreements and duplex bases of up to 41 bits, and at the limit itself.
+fn ask_millionths(rng: &mut Rng) -> Result<(), String> {
+    const LIMIT: u64 = 1 << 41;
+    let [disagreements, duplex_bases] = [(); 2].map(|()| match rng.below(20) {
+        0 => LIMIT - rng.below(3) as u64,
+        _ => rng.draw() >> (23 + rng.below(41)),
+    });
+    let ledger = Ledger { disagreements, duplex_bases, ..Ledger::default() };
+    let expected = (u128::from(disagreements) * 1_000_000).checked_div(duplex_bases.into());
+    let found = ledger.rates().map(|rates| u128::from(rates.millionths));
+    if found != Ok(expected.unwrap_or(0)) {
+        return Err(format!("{disagreements} of {duplex_bases}: {found:?}, not {expected:?}"));
+    }
+    Ok(())
+}
+
 fn run() -> Result<(), String> {
     let mut words = std::env::args().skip(1).map(|word| word.parse::<u64>());
     let mut number = |otherwise| words.next().unwrap_or(Ok(otherwise)).map_err(|e| e.to_string());
-    let (seed, calls) = (number(1)?, number(1_000_000)? as usize);
+    let (seed, calls, pairs) = (number(1)?, number(1_000_000)? as usize, number(10_000_000)?);
     let mut rng = Rng::new(seed);
     let mut valid = Calls::new(seed).map(|call| call.family);
     let room = RefCell::new(Room::new());
@@ -149,7 +166,8 @@ fn run() -> Result<(), String> {
     }
     let ends: Vec<String> = tally.ends.iter().map(|(end, n)| format!("{end}: {n}")).collect();
     println!("{}", ends.join(", "));
-    println!("hostile, seed {seed}: {} calls: no difference", tally.calls);
+    (0..pairs).try_for_each(|_| ask_millionths(&mut rng))?;
+    println!("hostile, seed {seed}: {} calls, {pairs} rates: no difference", tally.calls);
     Ok(())
 }
 
