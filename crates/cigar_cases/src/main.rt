@@ -21,8 +21,22 @@ fn sam_example() {
     show_positions(b"9M", 37, 36, 47);
 }
 
-// The last base: of an M, = or X, never of an insertion or a clip.
+// Request 07's last base: inserted and clipped bases count, where an M, = or X came before.
 fn last_bases() {
+    show_positions(b"5M3I2D4M", 1, 5, 12);
+    show_positions(b"5M2D4M", 1, 5, 9);
+    show_positions(b"5M3S2D4M", 1, 5, 9);
+    show_positions(b"5M3I2N4M", 1, 5, 9);
+    show_positions(b"5M3H2D4M", 1, 5, 9);
+    show_positions(b"2S5=1X3I1P2D4M", 1, 6, 10);
+    show_positions(b"4M2D2I2N3M", 1, 4, 10);
+    show_positions(b"3S2D5M", 1, 1, 4);
+    show_positions(b"2I2D5M", 1, 1, 4);
+    show_positions(b"5M3I", 1, 5, 7);
+}
+
+// Gaps at the ends, pads and clips around them, and an M of no base.
+fn last_bases_at_the_ends() {
     show_positions(b"5M3I2D", 1, 5, 9);
     show_positions(b"4M2D2I2N", 1, 4, 10);
     show_positions(b"3S2I2D1M", 10, 9, 14);
@@ -170,6 +184,7 @@ fn groups() {
 fn main() {
     sam_example();
     last_bases();
+    last_bases_at_the_ends();
     lengths_of_28_bits();
     simplified_lists();
     prefixes();

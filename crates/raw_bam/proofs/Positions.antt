@@ -1,9 +1,8 @@
 -- Laws of the read position.
-use mathlib.Core.Bool.{Bool, true}
+use mathlib.Core.Bool.{Bool, true, false, cond, _&&_, _||_, or-assoc, or-false, false≢true}
 use mathlib.Core.List.{List, [], _∷_, _++_, append-assoc}
-use mathlib.Core.Path.{_≡_, refl, sym, _∙_, ap}
+use mathlib.Core.Path.{_≡_, refl, sym}
 use Prim.Native.Nat.{ℕ, _+_, _-_, _≤_, _<_}
-use native.Mathlib.Nat.{zero-add, add-assoc}
 use native.Mathlib.Numerals.{add-one}
 use native.Mathlib.Omega.{arith}
 use borrow.Author.Tests.{ltb-true, lt-ltb, le-ltb}
@@ -11,35 +10,24 @@ use lib.Dec.{ltb}
 use lib.ListN.{length, take, drop, getD}
 use lib.Seq.{take-suc, drop-cons}
 use Rattle.lists.specs.Total.{total}
-use Rattle.lists.proofs.Cases.{cond-cases, both-true}
+use Rattle.lists.proofs.Cases.{cond-cases, both-true, and-both}
 use Rattle.lists.proofs.Total.{total-append}
 use Rattle.raw_bam.specs.Cigar.{opLength, opCode, readBases, readLength, referenceBases, referenceLength}
 use Rattle.raw_bam.specs.Operations.{consumesRead, consumesReference}
-use Rattle.raw_bam.specs.ReadPosition.{isAligned, shifted, orElse, lastOf, lastAligned, inside, positionAt, readPosition}
+use Rattle.raw_bam.specs.ReadPosition.{isAligned, hasAlignedBase, hasAligned, inside, positionAt, readPosition}
 use Rattle.raw_bam.specs.declared.read_pos.ReadPos.{ReadPos}
 use Rattle.raw_bam.specs.declared.read_pos.ReadPos.the-variants.{Base, NoBase}
 
--- one operation more: its own last base, or that of the operations before it
-pub lastAligned-more : (words : List ℕ) (word : ℕ) → lastAligned (words ++ (word ∷ [])) ≡ orElse (shifted (readLength words) (lastOf word)) (lastAligned words)
-unfolding lastAligned total
-lastAligned-more [] word = alone (lastOf word)
-  where
-    alone : (own : ReadPos) → own ≡ orElse (shifted 0 own) NoBase
-    alone (Base p) = ap Base (sym (zero-add p))
-    alone NoBase = refl
-lastAligned-more (first ∷ words) word =
-    ap (λ (p : ReadPos). orElse (shifted (readBases first) p) (lastOf first)) (lastAligned-more words word) ∙ further (lastOf word)
-  where
-    further : (own : ReadPos)
-        → orElse (shifted (readBases first) (orElse (shifted (readLength words) own) (lastAligned words))) (lastOf first)
-        ≡ orElse (shifted (readBases first + readLength words) own) (orElse (shifted (readBases first) (lastAligned words)) (lastOf first))
-    further (Base p) = ap Base (sym (add-assoc (readBases first) (readLength words) p))
-    further NoBase = refl
+-- one operation more: M, = or X came before it, or it is one itself
+pub hasAligned-more : (words : List ℕ) (word : ℕ) → hasAligned (words ++ (word ∷ [])) ≡ hasAligned words || hasAlignedBase word
+unfolding hasAligned
+hasAligned-more [] word = or-false (hasAlignedBase word)
+hasAligned-more (first ∷ words) word = rw (hasAligned-more words word) (sym (or-assoc (hasAlignedBase first) (hasAligned words) (hasAlignedBase word)))
 
 module _ (askLast : Bool) (ops : List ℕ) (i k : ℕ) (more : i < length ops) where
   -- the reference base lies in operation i
   pub position-here : k < referenceBases (getD ops i 0)
-      → positionAt askLast (take i ops) (drop i ops) k ≡ inside askLast (readLength (take i ops)) (lastAligned (take i ops)) (getD ops i 0) k
+      → positionAt askLast (take i ops) (drop i ops) k ≡ inside askLast (readLength (take i ops)) (hasAligned (take i ops)) (getD ops i 0) k
   unfolding positionAt
   position-here h = rw (drop-cons ops i 0, lt-ltb k (referenceBases (getD ops i 0)) h)
 
@@ -59,17 +47,17 @@ abbrev Within : ℕ → ReadPos → Type 0
 Within n (Base p) = (1 ≤ p) × (p ≤ n)
 Within n NoBase = Unit
 
-lastAligned-within : (words : List ℕ) (more : ℕ) → Within (readLength words + more) (lastAligned words)
-unfolding lastAligned total
-lastAligned-within [] more = tt
-lastAligned-within (word ∷ words) more = further (lastAligned words) (lastAligned-within words more)
+-- where M, = or X is among the operations, they have a read base
+aligned-read : (words : List ℕ) → hasAligned words ≡ true → 1 ≤ readLength words
+unfolding hasAligned total
+aligned-read [] e = absurd (false≢true e)
+aligned-read (word ∷ words) e = first (hasAlignedBase word) refl e (aligned-read words)
   where
-    further : (later : ReadPos) → Within (readLength words + more) later → Within (readBases word + readLength words + more) (orElse (shifted (readBases word) later) (lastOf word))
-    further (Base p) h = omega arith
-    further NoBase h =
-        cond-cases (Within _) (isAligned word)
-        (λ aligned. cond-cases (Within _) (ltb 0 (opLength word)) (λ some. omega (arith, ltb-true 0 (opLength word) some, aligned-bases word aligned .0)) (λ _. tt))
-        (λ _. tt)
+    first : (own : Bool) → hasAlignedBase word ≡ own → own || hasAligned words ≡ true → (hasAligned words ≡ true → 1 ≤ readLength words) → 1 ≤ readBases word + readLength words
+    first true some e later =
+        let parts = and-both (isAligned word) (ltb 0 (opLength word)) some in
+        omega (arith, ltb-true 0 (opLength word) (parts .1), aligned-bases word (parts .0) .0)
+    first false some e later = omega (arith, later e)
 
 positionAt-within : (askLast : Bool) (before words : List ℕ) (k : ℕ) → Within (readLength (before ++ words)) (positionAt askLast before words k)
 unfolding positionAt total
@@ -80,7 +68,10 @@ positionAt-within askLast before (word ∷ words) k =
     rw total-append
     (cond-cases (Within _) (isAligned word)
     (λ aligned. omega (arith, ltb-true k (referenceBases word) here, aligned-bases word aligned))
-    (λ _. cond-cases (Within _) askLast (λ _. lastAligned-within before (readBases word + readLength words)) (λ _. tt))))
+    (λ _.
+    cond-cases (Within _) (askLast && hasAligned before)
+    (λ asked. omega (arith, aligned-read before (and-both askLast (hasAligned before) asked .1)))
+    (λ _. tt))))
     (λ _. rw append-assoc at (positionAt-within askLast (before ++ (word ∷ [])) words (k - referenceBases word)))
 
 positionAt-beyond : (askLast : Bool) (before words : List ℕ) (k : ℕ) → referenceLength words ≤ k → positionAt askLast before words k ≡ NoBase
@@ -90,6 +81,25 @@ positionAt-beyond askLast before (word ∷ words) k h =
     cond-cases (λ r. r ≡ NoBase) (ltb k (referenceBases word))
     (λ here. absurd (omega (arith, ltb-true k (referenceBases word) here)))
     (λ _. positionAt-beyond askLast (before ++ (word ∷ [])) words (k - referenceBases word) (omega arith))
+
+-- where each answer that is a base is the other's too, so is the one that the test picks
+kept : (test : Bool) {x y x′ y′ : ReadPos} {p : ℕ} → (x ≡ Base p → x′ ≡ Base p) → (y ≡ Base p → y′ ≡ Base p) → cond test x y ≡ Base p → cond test x′ y′ ≡ Base p
+kept true first second e = first e
+kept false first second e = second e
+
+no-base : {p : ℕ} {x : ReadPos} → NoBase ≡ Base p → x ≡ Base p
+no-base e = let apart : _≡_ {A = ℕ} 0 1 = cc in absurd (omega arith)
+
+positionAt-asked : (before words : List ℕ) (k : ℕ) {p : ℕ} → positionAt false before words k ≡ Base p → positionAt true before words k ≡ Base p
+unfolding positionAt
+positionAt-asked before [] k e = e
+positionAt-asked before (word ∷ words) k e =
+    kept (ltb k (referenceBases word)) (kept (isAligned word) (λ base. base) no-base) (positionAt-asked (before ++ (word ∷ [])) words (k - referenceBases word)) e
+
+-- asking for the last base changes nothing where there is a base
+pub position-asked : (ops : List ℕ) (start position : ℕ) {p : ℕ} → readPosition false ops start position ≡ Base p → readPosition true ops start position ≡ Base p
+unfolding readPosition
+position-asked ops start position e = kept (ltb position start) no-base (positionAt-asked [] ops (position - start)) e
 
 module _ (askLast : Bool) (ops : List ℕ) (start position : ℕ) where
   -- a read position lies from 1 to the read length

@@ -1,5 +1,5 @@
--- Document 01, 'CIGAR operations', Read position of a reference position: from 1, counting I and S bases too.
-use mathlib.Core.Bool.{Bool, false, cond}
+-- Document 01, 'CIGAR operations', Read position of a reference position: from 1, counting I and S bases too; request 07's last base.
+use mathlib.Core.Bool.{Bool, false, cond, _&&_, _||_}
 use mathlib.Core.List.{List, [], _∷_, _++_}
 use Prim.Native.Nat.{ℕ, _+_, _-_}
 use lib.Dec.{ltb}
@@ -12,35 +12,26 @@ use Rattle.raw_bam.specs.declared.read_pos.ReadPos.the-variants.{Base, N
 abbrev pub isAligned : ℕ → Bool
 isAligned word = cond (consumesRead (opCode word)) (consumesReference (opCode word)) false
 
--- a position that lies n read bases further on
-abbrev pub shifted : ℕ → ReadPos → ReadPos
-shifted n (Base p) = Base (n + p)
-shifted n NoBase = NoBase
+-- M, = or X of some length
+abbrev pub hasAlignedBase : ℕ → Bool
+hasAlignedBase word = isAligned word && ltb 0 (opLength word)
 
--- the first of two, where it is a base
-abbrev pub orElse : ReadPos → ReadPos → ReadPos
-orElse (Base p) other = Base p
-orElse NoBase other = other
+-- an M, = or X of some length is among the operations
+unfoldable pub hasAligned : List ℕ → Bool
+hasAligned [] = false
+hasAligned (word ∷ words) = hasAlignedBase word || hasAligned words
 
--- the last base of an operation, where it is M, = or X
-abbrev pub lastOf : ℕ → ReadPos
-lastOf word = cond (isAligned word) (cond (ltb 0 (opLength word)) (Base (opLength word)) NoBase) NoBase
-
--- the last M, = or X base of the operations
-unfoldable pub lastAligned : List ℕ → ReadPos
-lastAligned [] = NoBase
-lastAligned (word ∷ words) = orElse (shifted (readBases word) (lastAligned words)) (lastOf word)
-
--- at the base k, from 0, of an operation, with the read bases and the last M, = or X base before it: inside M, = or X, that
--- base; inside D or N none, or the last base where that is asked for
-abbrev pub inside : Bool → ℕ → ReadPos → ℕ → ℕ → ReadPos
-inside askLast read last word k = cond (isAligned word) (Base (read + k + 1)) (cond askLast last NoBase)
+-- at the base k, from 0, of an operation, with the read bases before it and whether M, = or X came before it. Inside M, = or X, that
+-- base. Inside D or N, where the last base is asked for, request 07's 'last read base consumed before it, inserted or soft-clipped
+-- bases included, or none if no M, = or X came before'
+abbrev pub inside : Bool → ℕ → Bool → ℕ → ℕ → ReadPos
+inside askLast read aligned word k = cond (isAligned word) (Base (read + k + 1)) (cond (askLast && aligned) (Base read) NoBase)
 
 -- at the reference base k, from 0, of the operations that are left, with those before them
 unfoldable pub positionAt : Bool → List ℕ → List ℕ → ℕ → ReadPos
 positionAt askLast before [] k = NoBase
 positionAt askLast before (word ∷ words) k =
-    cond (ltb k (referenceBases word)) (inside askLast (readLength before) (lastAligned before) word k)
+    cond (ltb k (referenceBases word)) (inside askLast (readLength before) (hasAligned before) word k)
     (positionAt askLast (before ++ (word ∷ [])) words (k - referenceBases word))
 
 -- of a record that starts at a reference position

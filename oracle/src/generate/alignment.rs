@@ -6,10 +6,10 @@ use super::rng::Rng;
 pub type Operation = (u32, u8);
 
 const M: u8 = 0;
-const I: u8 = 1;
+pub const I: u8 = 1;
 const D: u8 = 2;
 const N: u8 = 3;
-const S: u8 = 4;
+pub const S: u8 = 4;
 const H: u8 = 5;
 const P: u8 = 6;
 

@@ -1,6 +1,6 @@
 //! Records of a family: pairs over two stretches, and others beside them.
 
-use super::alignment::{Alignment, Gap, gap, stretch};
+use super::alignment::{Alignment, Gap, I, S, gap, stretch};
 use super::rng::Rng;
 use crate::model::{Family, Options, Record};
 
@@ -121,12 +121,14 @@ fn stretches(rng: &mut Rng) -> (Stretch, Stretch) {
     }
 }
 
+/// Gaps near the edges, some with read bases right before them.
 fn gaps(rng: &mut Rng, percent: u64, near: &[i64]) -> Vec<Gap> {
     let mut gaps = Vec::new();
     while rng.chance(percent) && gaps.len() < 4 {
         let first = gap(rng, near);
         if rng.chance(25) {
-            gaps.push(Gap { operation: (rng.range(1, 3) as u32, 1), ..first });
+            let inserted = rng.pick(&[I, S]);
+            gaps.push(Gap { operation: (rng.range(1, 3) as u32, inserted), ..first });
         }
         gaps.push(first);
     }

@@ -71,7 +71,7 @@ impl Reader {
         a[..last] == b[..last] && a[last].1 == b[last].1 && length_fits
     }
 
-    /// From 1; a position in D or N has the last M, = or X base before it, if that is asked for.
+    /// From 1; a position in D or N has the last read base before it, if that is asked for and M, = or X came before.
     pub(super) fn read_position(
         &self,
         words: &[u32],
@@ -80,6 +80,7 @@ impl Reader {
         last_base: bool,
     ) -> Option<i64> {
         let (mut reference, mut read, mut last) = (start, 0i64, None);
+        let mut any = self.misreads(Wrong::LastBaseUnaligned);
         for &word in words {
             let (length, code) = entry(word);
             let length = length as i64;
@@ -96,8 +97,13 @@ impl Reader {
             if takes_read(code) && !(code == 4 && self.misreads(Wrong::SoftClipsUncounted)) {
                 read += length;
             }
-            let aligned = takes_read(code) && takes_reference(code);
-            if aligned || takes_read(code) && self.misreads(Wrong::LastBaseInsertions) {
+            any |= takes_read(code) && takes_reference(code);
+            let left_out = match self.0 {
+                Some(Wrong::LastBaseAligned) => !takes_reference(code),
+                Some(Wrong::LastBaseUnclipped) => code == 4,
+                _ => false,
+            };
+            if any && takes_read(code) && !left_out {
                 last = Some(read);
             }
         }

@@ -1,4 +1,4 @@
-//! Wrong readings of document 01, each a small slip that one could make in good faith.
+//! Wrong readings of document 01 and of request 07, each a small slip that one could make in good faith.
 
 macro_rules! readings {
     ($($name:ident: $slip:literal,)*) => {
@@ -63,7 +63,9 @@ readings! {
     NoneOutOfPhase: "no read position is out of phase",
     PhaseNoLastBase: "phase asked without last base",
     LengthLastBase: "length asked with last base",
-    LastBaseInsertions: "the last base counts I and S before the gap",
+    LastBaseAligned: "the last base is the last M, = or X base",
+    LastBaseUnclipped: "the last base leaves out S before the gap",
+    LastBaseUnaligned: "a last base though no M, = or X came before",
     LengthAtStart: "length taken at the window's start",
     SoftClipsUncounted: "read positions do not count S",
     DovetailNoMinimum: "Dovetail without the minimum on the true window",

@@ -1,4 +1,4 @@
-//! CIGAR helpers as document 01 defines them, 'CIGAR operations'.
+//! CIGAR helpers as document 01 defines them, 'CIGAR operations', the last base as request 07 does.
 
 use noodles::sam::alignment::record::cigar::op::Kind;
 
@@ -55,7 +55,8 @@ pub fn simplify_cigar_from_raw(words: &[u32]) -> Vec<(Kind, usize)> {
     list
 }
 
-/// Read position, from 1, of a reference position; in D or N the last aligned base if asked for.
+/// Read position, from 1, of a reference position; in D or N, if asked for, the last read base before it, or none if no M, = or X
+/// came before.
 pub fn read_pos_at_ref_pos_raw(
     words: &[u32],
     alignment_start: usize,
@@ -64,7 +65,7 @@ pub fn read_pos_at_ref_pos_raw(
 ) -> Option<usize> {
     let mut reference = alignment_start;
     let mut read = 0;
-    let mut last_aligned = None;
+    let mut aligned = false;
     for &word in words {
         let (_, takes_read, takes_reference) = operation(word);
         let inside = ref_pos >= reference && ref_pos - reference < length(word);
@@ -72,14 +73,12 @@ pub fn read_pos_at_ref_pos_raw(
             return if takes_read {
                 Some(read + (ref_pos - reference) + 1)
             } else {
-                last_aligned.filter(|_| return_last_base_if_deleted)
+                Some(read).filter(|_| return_last_base_if_deleted && aligned)
             };
         }
         read += if takes_read { length(word) } else { 0 };
         reference += if takes_reference { length(word) } else { 0 };
-        if takes_read && takes_reference {
-            last_aligned = Some(read);
-        }
+        aligned |= takes_read && takes_reference;
     }
     None
 }

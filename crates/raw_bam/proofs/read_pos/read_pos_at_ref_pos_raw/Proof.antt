@@ -11,28 +11,28 @@ use lib.Seq.{take-suc}
 use Rattle.lists.specs.Total.{total}
 use Rattle.lists.proofs.Total.{total-more}
 use Rattle.raw_bam.specs.Cigar.{readBases, readLength}
-use Rattle.raw_bam.specs.ReadPosition.{lastAligned, positionAt, readPosition}
-use Rattle.raw_bam.proofs.Positions.{lastAligned-more, position-here, position-on}
+use Rattle.raw_bam.specs.ReadPosition.{hasAligned, positionAt, readPosition}
+use Rattle.raw_bam.proofs.Positions.{hasAligned-more, position-here, position-on}
 use Rattle.raw_bam.proofs.read_pos.read_pos_at_ref_pos_raw.Statement.{statement}
 use Rattle.raw_bam.proofs.read_pos.read_pos_at_ref_pos_raw.Tie as tie
 
 abbrev Inv-loop : tie.InvT-loop
-Inv-loop ops start position ask-last k₀ read₀ last₀ i₀ k read last i =
+Inv-loop ops start position ask-last k₀ read₀ aligned₀ i₀ k read aligned i =
     (i ≤ length ops)
     × (read ≡ readLength (take i ops))
-    × (last ≡ lastAligned (take i ops))
+    × (aligned ≡ hasAligned (take i ops))
     × (positionAt ask-last (take i ops) (drop i ops) k ≡ positionAt ask-last [] ops k₀)
     × (read ≤ 268435455 * i)
 
 abbrev μ-loop : tie.MeasureT-loop
-μ-loop ops start position ask-last k₀ read₀ last₀ i₀ k read last i = length ops - i
+μ-loop ops start position ask-last k₀ read₀ aligned₀ i₀ k read aligned i = length ops - i
 
 returns : tie.Need-returns Inv-loop μ-loop
 unfolding readPosition
 returns c = simp (lt-ltb _ _ (c .if1 .taken))
 
 loop-holds : tie.Need-loop-holds Inv-loop μ-loop
-unfolding total lastAligned
+unfolding total hasAligned
 loop-holds c = search needs
 
 mul-word : tie.Need-mul-word Inv-loop μ-loop
@@ -57,8 +57,8 @@ returns-2 c =
     let here = position-here (start .before .args .ask-last) ops (at .loop .i) (at .loop .k) (omega arith) (omega (arith, called .bases-of .ensures .1)) in
     rw (le-ltb (start .before .args .position) (start .before .args .start) (omega arith), ← at .loop .inv .3, here, ← at .loop .inv .1, ← at .loop .inv .2) (c .position-inside .ensures)
 
-last-after-requires : tie.Need-last-after-requires Inv-loop μ-loop
-last-after-requires c κs = search needs
+has-aligned-base-requires : tie.Need-has-aligned-base-requires Inv-loop μ-loop
+has-aligned-base-requires c κs = search needs
 
 add-read : tie.Need-add-read Inv-loop μ-loop
 add-read c = omega arith
@@ -79,7 +79,7 @@ loop-again c =
     let on = position-on (start .before .args .ask-last) ops (at .loop .i) (at .loop .k) (omega arith) (omega (arith, called .bases-of .ensures .1)) in (
       omega arith,
       omega (arith, total-more readBases ops (at .loop .i) 0 (omega arith), called .bases-of .ensures .0),
-      rw (add-one, take-suc ops (at .loop .i) 0 (omega arith), lastAligned-more, ← at .loop .inv .1, ← at .loop .inv .2) (c .before .before .last-after .ensures),
+      rw (add-one, take-suc ops (at .loop .i) 0 (omega arith), hasAligned-more, ← at .loop .inv .2, ← c .before .before .has-aligned-base .ensures),
       rw (called .bases-of .ensures .1) (sym on ∙ at .loop .inv .3),
       omega arith,
     )
@@ -106,7 +106,7 @@ read-pos-at-ref-pos-raw-spec =
     bases-of-requires
     position-inside-requires
     returns-2
-    last-after-requires
+    has-aligned-base-requires
     add-read
     add-i
     loop-less
