@@ -1,4 +1,4 @@
-// Family calls as text: read one at a time, and the answers of selection written.
+// Family calls as text, read one at a time.
 pub mod bases;
 pub mod family;
 pub mod header;
@@ -8,6 +8,5 @@ pub mod lines;
 pub mod numbers;
 pub mod record;
 pub mod records;
-pub mod selection_text;
 pub mod strands;
 pub mod value;

@@ -1,4 +1,5 @@
 // The families of a window, one after the other, and what selection answers to each.
+use answer_text::selection_text;
 use codec_select::alone;
 use codec_select::records::Record;
 use family_text::family;
@@ -7,7 +8,6 @@ use family_text::header::Header;
 use family_text::ledgers;
 use family_text::lines::Next;
 use family_text::lines::Stop;
-use family_text::selection_text;
 use libc::STDOUT_FILENO;
 ghost use Prim.Native.Nat.{_+_, _≤_, _<_};
 ghost use lib.ListN.{length};

@@ -3,9 +3,9 @@ use native.Mathlib.Omega.{arith}
 use borrow.Author.Needs.{needs}
 use Rattle.table_text.specs.Text.{bytesOf}
 use Rattle.table_text.proofs.Stores.{stored-then}
-use Rattle.family_text.specs.SelectionText.{lineText}
-use Rattle.family_text.proofs.selection_text.write_sides.Statement.{statement}
-use Rattle.family_text.proofs.selection_text.write_sides.Tie as tie
+use Rattle.answer_text.specs.Line.{lineText}
+use Rattle.answer_text.proofs.selection_text.write_sides.Statement.{statement}
+use Rattle.answer_text.proofs.selection_text.write_sides.Tie as tie
 
 slice-aggregate-write-line : tie.Need-slice-aggregate-write-line
 slice-aggregate-write-line c = search needs

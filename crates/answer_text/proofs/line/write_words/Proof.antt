@@ -1,8 +1,8 @@
 -- A copy into the part of the buffer from a place on is a run of stores there.
 use borrow.Author.Needs.{needs}
-use Rattle.family_text.proofs.LineTexts.{copied-stored}
-use Rattle.family_text.proofs.selection_text.write_words.Statement.{statement}
-use Rattle.family_text.proofs.selection_text.write_words.Tie as tie
+use Rattle.answer_text.proofs.Lines.{copied-stored}
+use Rattle.answer_text.proofs.line.write_words.Statement.{statement}
+use Rattle.answer_text.proofs.line.write_words.Tie as tie
 
 sub-copy : tie.Need-sub-copy
 sub-copy c = search needs

@@ -6,17 +6,8 @@ use Rattle.caller.specs.Reasons.{numberOf}
 use Rattle.codec_select.specs.declared.selection.Decision.{Decision}
 use Rattle.codec_select.specs.declared.selection.Decision.the-variants.{Kept, Empty, Rejected, Refused}
 use Rattle.codec_select.specs.declared.selection.Selection.{Selection}
-use Rattle.table_text.specs.Decimal.{decimal}
-use Rattle.table_text.specs.Text.{bytesOf, space, lineFeed}
-
--- each number after a single space
-unfoldable pub fieldsText : List ℕ → List ℕ
-fieldsText [] = []
-fieldsText (n ∷ more) = (space ∷ decimal n) ++ fieldsText more
-
--- a line: its words, its numbers and a line feed
-unfoldable pub lineText : List ℕ → List ℕ → List ℕ
-lineText words numbers = words ++ (fieldsText numbers ++ (lineFeed ∷ []))
+use Rattle.table_text.specs.Text.{bytesOf}
+use Rattle.answer_text.specs.Line.{lineText}
 
 -- a yes is written as 1, a no as 0
 abbrev pub flagNumber : Bool → ℕ

@@ -1,52 +1,17 @@
 // The answer of selection alone as text.
+use crate::line::write_line;
 use codec_select::selection::Decision;
 use codec_select::selection::Selection;
-use table_text::decimal;
-ghost use mathlib.Core.List.{[], _∷_, _++_};
-ghost use mathlib.Core.Path.{_≡_};
-ghost use Prim.Native.Nat.{_+_, _*_, _≤_};
+ghost use mathlib.Core.List.{_++_};
+ghost use Prim.Native.Nat.{_+_, _≤_};
 ghost use lib.ListN.{length};
 ghost use Rattle.table_text.specs.OutputTable.{Stored};
 ghost use Rattle.table_text.specs.Text.{bytesOf};
-ghost use Rattle.family_text.specs.SelectionText.{fieldsText, lineText, selectionText, decisionText};
+ghost use Rattle.answer_text.specs.Line.{lineText};
+ghost use Rattle.answer_text.specs.SelectionText.{selectionText};
 
 // Room for the longest answer: 91 bytes for the line `kept`, and 171 for each side's eight words.
 pub const ANSWER_BYTES: usize = 433;
-
-fn write_words(words: &[u8], output: &mut [u8], to: usize) -> usize
-    requires { ⌜ to + length (now words) ≤ length (now output) ⌝ }
-    ensures { λ r. ⌜ Stored (now (words .entry)) (now (output .entry)) to (now (output .exit)) r ⌝ }
-{
-    to + bytes::copy(words, &mut output[to..])
-}
-
-// Writes each number after a space; 64 bits are at most 20 digits.
-fn write_fields(numbers: &[u64], output: &mut [u8], to: usize) -> usize
-    requires { ⌜ to + 21 * length (now numbers) ≤ length (now output) ⌝ }
-    ensures { λ r. ⌜ Stored (fieldsText (now (numbers .entry))) (now (output .entry)) to (now (output .exit)) r ⌝ }
-    ensures { λ r. ⌜ r ≤ to + 21 * length (now (numbers .entry)) ⌝ }
-{
-    let mut end = to;
-    let mut i = 0;
-    while i < numbers.len() {
-        output[end] = b' ';
-        end = decimal::write_decimal(numbers[i], output, end + 1);
-        i += 1;
-    }
-    end
-}
-
-// Writes a line: its words, its numbers and the line feed.
-fn write_line(words: &[u8], numbers: &[u64], output: &mut [u8], to: usize) -> usize
-    requires { ⌜ to + length (now words) + 21 * length (now numbers) + 1 ≤ length (now output) ⌝ }
-    ensures { λ r. ⌜ Stored (lineText (now (words .entry)) (now (numbers .entry))) (now (output .entry)) to (now (output .exit)) r ⌝ }
-    ensures { λ r. ⌜ r ≤ to + length (now (words .entry)) + 21 * length (now (numbers .entry)) + 1 ⌝ }
-{
-    let at_fields = write_words(words, output, to);
-    let end = write_fields(numbers, output, at_fields);
-    output[end] = b'\n';
-    end + 1
-}
 
 // Writes the mark words of both sides.
 fn write_sides(r1: &[u64; 8], r2: &[u64; 8], output: &mut [u8], to: usize) -> usize

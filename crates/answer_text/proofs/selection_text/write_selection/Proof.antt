@@ -7,9 +7,10 @@ use borrow.Author.Needs.{needs}
 use mir.Val.{boolByte}
 use Rattle.table_text.specs.Text.{bytesOf}
 use Rattle.table_text.proofs.Stores.{stored-then}
-use Rattle.family_text.specs.SelectionText.{lineText, flagNumber, decisionText}
-use Rattle.family_text.proofs.selection_text.write_selection.Statement.{statement}
-use Rattle.family_text.proofs.selection_text.write_selection.Tie as tie
+use Rattle.answer_text.specs.Line.{lineText}
+use Rattle.answer_text.specs.SelectionText.{flagNumber, decisionText}
+use Rattle.answer_text.proofs.selection_text.write_selection.Statement.{statement}
+use Rattle.answer_text.proofs.selection_text.write_selection.Tie as tie
 
 -- a flag as a number is its byte
 flag-byte : (b : Bool) → boolByte b ≡ flagNumber b
