@@ -1,5 +1,6 @@
 // Family calls as text, read one at a time.
 pub mod bases;
+pub mod column;
 pub mod family;
 pub mod header;
 pub mod ledgers;
