@@ -2,15 +2,21 @@
 use mathlib.Core.Bool.{Bool, true, false, cond}
 use mathlib.Core.List.{List, [], _∷_, _++_, append-assoc}
 use mathlib.Core.Path.{_≡_, refl, sym, ap}
-use Prim.Native.Nat.{ℕ, _+_, _-_, _≤_, _<_}
+use Prim.Native.Nat.{ℕ, zero, suc, _+_, _-_, _≤_, _<_}
 use native.Mathlib.Omega.{arith}
 use borrow.Author.Tests.{lt-ltb, le-ltb}
 use lib.Dec.{ltb}
+use lib.ListN.{length, getD, take}
+use lib.Seq.{length-take-le}
+use Rattle.lists.proofs.Written.{take-count}
+use Rattle.lists.specs.Written.{written}
+use Rattle.table_text.proofs.Decimals.{number-le}
 use Rattle.table_text.specs.Decimal.{number}
-use Rattle.table_text.specs.Fields.{read, malformed, numberField, valueOf}
+use Rattle.table_text.specs.Fields.{Read, read, malformed, numberField, valueOf, fieldsOf}
 use Rattle.table_text.specs.declared.decimal.Number.the-variants as numbers
 use Rattle.table_text.specs.declared.decimal.Number.{Number}
-use Rattle.family_text.specs.Numbers.{numberThen, numbersOf}
+use Rattle.family_text.specs.Line.{tagField}
+use Rattle.family_text.specs.Numbers.{numberThen, numbersOf, numbersAfter, numbersLine}
 use Rattle.family_text.specs.Parsed.{Parsed, parsed, unparsed, after}
 
 pub after-none : {A : Type 0} (r : Parsed (List A)) → after [] r ≡ r
@@ -55,3 +61,34 @@ numbers-full room limit field fields h = rw (le-ltb 0 room h)
 pub numbers-none : (room limit : ℕ) → numbersOf room limit [] ≡ parsed []
 unfolding numbersOf
 numbers-none room limit = refl
+
+-- each number is within the limit
+numbers-within : (room limit : ℕ) (fields : List (List ℕ)) (ns : List ℕ) → numbersOf room limit fields ≡ parsed ns → (k : ℕ) → getD ns k 0 ≤ limit
+unfolding numbersOf
+numbers-within room limit [] ns e k = let none : ns ≡ [] = cc in rw none (omega arith)
+numbers-within room limit (field ∷ fields) ns e k = go (ltb 0 room) (number limit field) refl (numbersOf (room - 1) limit fields) (λ ms f. numbers-within (room - 1) limit fields ms f) e
+  where
+    behind : (v : ℕ) → v ≤ limit → (x : Parsed (List ℕ)) → ((ms : List ℕ) → x ≡ parsed ms → (k : ℕ) → getD ms k 0 ≤ limit) → after (v ∷ []) x ≡ parsed ns → getD ns k 0 ≤ limit
+    behind v h (parsed ms) each f = let same : ns ≡ v ∷ ms = cc in rw same (at k)
+      where
+        at : (j : ℕ) → getD (v ∷ ms) j 0 ≤ limit
+        at zero = h
+        at (suc j) = each ms refl j
+    behind v h unparsed each f = let z : _≡_ {A = ℕ} 0 1 = cc in absurd (omega arith)
+
+    go : (t : Bool) (n : Number) → number limit field ≡ n → (x : Parsed (List ℕ)) → ((ms : List ℕ) → x ≡ parsed ms → (k : ℕ) → getD ms k 0 ≤ limit) → cond t (numberThen n x) unparsed ≡ parsed ns → getD ns k 0 ≤ limit
+    go true (numbers.Value v) is x each f = behind v (number-le limit field v is) x each f
+    go true numbers.Malformed is x each f = let z : _≡_ {A = ℕ} 0 1 = cc in absurd (omega arith)
+    go false n is x each f = let z : _≡_ {A = ℕ} 0 1 = cc in absurd (omega arith)
+
+pub line-within : (tag limit room : ℕ) (line ns : List ℕ) → numbersLine tag limit room line ≡ parsed ns → (k : ℕ) → getD ns k 0 ≤ limit
+unfolding numbersLine
+line-within tag limit room line ns e = go (tagField tag (fieldsOf line)) e
+  where
+    go : (x : Read ℕ) → numbersAfter limit room x ≡ parsed ns → (k : ℕ) → getD ns k 0 ≤ limit
+    go (read b fields) f = numbers-within room limit fields ns f
+    go malformed f = let z : _≡_ {A = ℕ} 0 1 = cc in absurd (omega arith)
+
+-- a column to which the first places of another are copied holds them
+pub copied-places : (n : ℕ) (wide old column : List ℕ) → n ≤ length wide → column ≡ written (take n wide) old → take n column ≡ take n wide
+copied-places n wide old column h e = take-count (take n wide) old column n (sym (length-take-le n wide h)) e

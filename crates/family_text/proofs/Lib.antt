@@ -4,6 +4,5 @@ pub mod Columns
 pub mod Figures
 pub mod Fits
 pub mod Layouts
-pub mod LineTexts
 pub mod Readings
 pub mod Tables

@@ -1,13 +1,13 @@
 -- Laws of reading a text line by line.
 use mathlib.Core.List.{List, [], _++_, append-assoc}
-use mathlib.Core.Path.{_≡_, refl, sym, ap}
+use mathlib.Core.Path.{_≡_, refl, sym, _∙_, ap}
 use Prim.Native.Nat.{ℕ, _+_, _-_, _≤_, _<_}
 use lib.ListN.{length, take, drop}
 use Rattle.bytes.specs.Bytes.{indexOf}
 use Rattle.table_text.proofs.Partings.{part-ended, part-last}
 use Rattle.table_text.specs.Parts.{Parts, ended}
 use Rattle.family_text.specs.Parsed.{Parsed}
-use Rattle.family_text.specs.Reading.{Reading, got, wrong, cut, andNext, gotAfter, lineThen, oneLine, linesFrom, stopIn, nextIn, Steps}
+use Rattle.family_text.specs.Reading.{Reading, got, wrong, cut, andNext, mapped, applied, gotAfter, lineThen, oneLine, linesFrom, stopIn, nextIn, fromNext, Steps}
 use Rattle.family_text.specs.declared.lines.Next.the-variants.{Until, Stopped}
 use Rattle.family_text.specs.declared.lines.Next.{Next}
 use Rattle.family_text.specs.declared.lines.Stop.the-variants.{Malformed, Cut}
@@ -30,12 +30,6 @@ module _ {A B : Type 0} (text : List ℕ) where
   next-stopped (Malformed at) second = refl
   next-stopped (Cut at) second = refl
 
-  -- one value for another
-  pub next-value : (a : A) (b : B) (r : Next) → andNext (nextIn text a r) (λ _ rest. got b rest) ≡ nextIn text b r
-  next-value a b (Until at) = refl
-  next-value a b (Stopped (Malformed at)) = refl
-  next-value a b (Stopped (Cut at)) = refl
-
 pub got-none : {A : Type 0} (r : Reading (List A)) → gotAfter [] r ≡ r
 got-none (got xs rest) = refl
 got-none (wrong rest) = refl
@@ -46,15 +40,25 @@ got-more {A} xs ys (got zs rest) = ap (λ (l : List A). got l rest) (sym (append
 got-more xs ys (wrong rest) = refl
 got-more xs ys (cut rest) = refl
 
-module _ {A B : Type 0} (text : List ℕ) (a : A) (b : B) (first : Reading A) (second : A → Parts → Reading B) where
-  -- where the first stops, both do
-  pub then-stopped : (stop : Stop) → Steps text a (Stopped stop) first → Steps text b (Stopped stop) (andNext first second)
-  then-stopped stop step = record { same = rw (← step .same) (sym (next-stopped text stop second)); within = step .within }
+module _ {A B : Type 0} (text : List ℕ) where
+  next-mapped : (f : A → B) (a : A) (r : Next) → mapped f (nextIn text a r) ≡ nextIn text (f a) r
+  next-mapped f a (Until at) = refl
+  next-mapped f a (Stopped (Malformed at)) = refl
+  next-mapped f a (Stopped (Cut at)) = refl
 
-  -- the second begins where the first ends
-  pub then-until : (at : ℕ) (r : Next) → Steps text a (Until at) first → Steps text b r (second a (linesFrom text at)) → Steps text b r (andNext first second)
-  then-until at r step more = record { same = rw (← step .same) (more .same); within = more .within }
+  mapped-from : (f : A → B) (n : Next) (second : Parts → Reading A) → mapped f (fromNext text n second) ≡ applied (nextIn text f n) second
+  mapped-from f (Until at) second = refl
+  mapped-from f (Stopped (Malformed at)) second = refl
+  mapped-from f (Stopped (Cut at)) second = refl
 
--- a value in place of one that says nothing
-pub steps-value : {B : Type 0} (text : List ℕ) (b : B) (r : Next) (first : Reading (Unit {0})) → Steps text tt r first → Steps text b r (andNext first (λ _ rest. got b rest))
-steps-value text b r first step = record { same = rw (← step .same) (sym (next-value text tt b r)); within = step .within }
+  -- another value in place of the one that is read
+  pub steps-mapped : (f : A → B) (a : A) (r : Next) (first : Reading A) → Steps text a r first → Steps text (f a) r (mapped f first)
+  steps-mapped f a r first step = record { same = rw (← step .same) (sym (next-mapped f a r)); within = step .within }
+
+  -- the second begins where the first ends, and does not begin where the first stops
+  pub steps-applied : (f : A → B) (a : A) (n r : Next) (first : Reading (A → B)) (second : Parts → Reading A) → Steps text f n first → Steps text a r (fromNext text n second)
+      → Steps text (f a) r (applied first second)
+  steps-applied f a n r first second step more = record {
+    same = sym (next-mapped f a r) ∙ ap (mapped f) (more .same) ∙ rw (← step .same) (mapped-from f n second);
+    within = more .within;
+  }

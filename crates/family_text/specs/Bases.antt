@@ -2,7 +2,7 @@
 use mathlib.Core.Bool.{cond, _&&_}
 use mathlib.Core.List.{List, [], _∷_}
 use Prim.Native.Char.{code}
-use Prim.Native.Nat.{ℕ, _-_}
+use Prim.Native.Nat.{ℕ, _+_, _-_, _≤_}
 use lib.Dec.{leb}
 use lib.ListN.{length, take, drop}
 use Rattle.table_text.specs.Fields.{Read, read, malformed, fieldsOf}
@@ -29,3 +29,8 @@ basesLine line = basesAfter (tagField (code "B") (fieldsOf line))
 abbrev pub basesIn : List ℕ → Bases → Parsed (List ℕ)
 basesIn line (Between start end) = parsed (take (end - start) (drop start line))
 basesIn line Malformed = unparsed
+
+-- it is a part of the line, of at most 1,100 bytes
+abbrev pub BasesWithin : ℕ → Bases → Type 0
+BasesWithin size (Between start end) = (start ≤ end) × (end ≤ size) × (end ≤ start + 1100)
+BasesWithin size Malformed = Unit {0}

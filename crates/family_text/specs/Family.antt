@@ -3,20 +3,25 @@ use mathlib.Core.List.{List, [], _∷_}
 use mathlib.Core.Path.{_≡_}
 use Prim.Native.Nat.{ℕ, _≤_}
 use lib.ListN.{length, take}
+use Rattle.codec_duplex.specs.Columns.{Strand}
+use Rattle.codec_stats.specs.Ledger.{Counts}
 use Rattle.codec_select.specs.declared.records.Record.{Record}
 use Rattle.table_text.specs.Parts.{Parts, last, ended}
 use Rattle.family_text.specs.Header.{headerOf}
 use Rattle.family_text.specs.Ledgers.{ledgersFrom}
 use Rattle.family_text.specs.Parsed.{Parsed, parsed, unparsed}
-use Rattle.family_text.specs.Reading.{Reading, got, wrong, cut, andNext, mapped, oneLine, linesFrom, stopIn, stopPlace}
+use Rattle.family_text.specs.Reading.{Reading, got, wrong, cut, andNext, mapped, applied, oneLine, linesFrom, stopIn, stopPlace}
 use Rattle.family_text.specs.Records.{recordsFrom, tableOf}
-use Rattle.family_text.specs.Strands.{wordsThen}
+use Rattle.family_text.specs.Strands.{strandIf, held, Held}
+use Rattle.family_text.specs.Numbers.{wordsLine}
 use Rattle.family_text.specs.declared.family.Ending.{Ending}
 use Rattle.family_text.specs.declared.family.Ending.the-variants as endings
 use Rattle.family_text.specs.declared.family.FamilyRead.{FamilyRead}
 use Rattle.family_text.specs.declared.family.HeaderNext.{HeaderNext}
 use Rattle.family_text.specs.declared.family.HeaderNext.the-variants as headers
 use Rattle.family_text.specs.declared.header.Header.{Header}
+use Rattle.family_text.specs.declared.lines.Next.{Next}
+use Rattle.family_text.specs.declared.lines.Next.the-variants.{Until, Stopped}
 use Rattle.family_text.specs.declared.header.HeaderLine.{HeaderLine}
 use Rattle.family_text.specs.declared.header.HeaderLine.the-variants.{Found, Malformed}
 
@@ -27,49 +32,75 @@ headerParsed Malformed = unparsed
 abbrev pub headerLine : List ℕ → Parsed Header
 headerLine line = headerParsed (headerOf line)
 
--- a family, with the first 512 of its records in a table; or no family any more
-pub data Call : Type 0 where
-  family : Header → List Record → List ℕ → Call
-  noMore : Call
+-- the first 512 of its records in a table, its operation words, and the strands of R1 and R2
+pub record Family : Type 0 where
+  pub header : Header
+  pub table : List Record
+  pub words : List ℕ
+  pub r1 : Strand
+  pub r2 : Strand
 
--- the words and the strands, after the records
-unfoldable pub wordsFrom : Header → List Record → Parts → Reading Call
-wordsFrom header table text = mapped (λ words. family header table words) (wordsThen (header .words) (header .«has_r1») (header .«has_r2») text)
+abbrev pub family : Header → List Record → List ℕ → Strand → Strand → Family
+family header table words r1 r2 = record { header = header; table = table; words = words; r1 = r1; r2 = r2 }
 
--- the records, after the header
-unfoldable pub familyFrom : Header → Parts → Reading Call
-familyFrom header text = andNext (mapped tableOf (recordsFrom (header .records) text)) λ table rest. wordsFrom header table rest
+-- after the header: the records, the words, R1's strand and R2's
+unfoldable pub familyFrom : Header → Parts → Reading Family
+familyFrom header text =
+    applied (applied (applied (mapped (family header) (mapped tableOf (recordsFrom (header .records) text))) (oneLine (wordsLine (header .words))))
+    (strandIf (header .«has_r1»)))
+    (strandIf (header .«has_r2»))
 
-unfoldable pub familyOf : Parts → Reading Call
+unfoldable pub familyOf : Parts → Reading Family
 familyOf text = andNext (oneLine headerLine text) λ header rest. familyFrom header rest
 
+-- a family and the ledger that it is handed; or no family any more
+pub data Call : Type 0 where
+  call : Counts → Family → Call
+  noMore : Counts → Call
+
 -- the text ends between two families, or there is one more
-unfoldable pub familyOrEnd : Parts → Reading Call
-familyOrEnd (last []) = got noMore (last [])
-familyOrEnd (last (b ∷ bs)) = cut (last (b ∷ bs))
-familyOrEnd (ended line more) = familyOf (ended line more)
+unfoldable pub familyOrEnd : Counts → Parts → Reading Call
+familyOrEnd ledger (last []) = got (noMore ledger) (last [])
+familyOrEnd ledger (last (b ∷ bs)) = cut (last (b ∷ bs))
+familyOrEnd ledger (ended line more) = mapped (call ledger) (familyOf (ended line more))
 
--- the next call of a text
-unfoldable pub callOf : Parts → Reading Call
-callOf text = andNext (ledgersFrom text) λ _ rest. familyOrEnd rest
+-- the next call of a text, the ledger so far given
+unfoldable pub callOf : Counts → Parts → Reading Call
+callOf ledger text = andNext (ledgersFrom ledger text) λ handed rest. familyOrEnd handed rest
 
--- an answer about a text, with the lines from its place on; the words stand in a column's first places
-abbrev pub endingIn : List ℕ → List Record → List ℕ → Ending → Reading Call
-endingIn text table ops (endings.Family header at) = got (family header table (take (header .words) ops)) (linesFrom text at)
-endingIn text table ops endings.End = got noMore (last [])
-endingIn text table ops (endings.Stopped stop) = stopIn text stop
+-- an answer about a text, with the lines from its place on; words and strands stand in the first places of columns
+abbrev pub endingIn : List ℕ → Counts → (Header → Family) → Ending → Reading Call
+endingIn text ledger found (endings.Family header at) = got (call ledger (found header)) (linesFrom text at)
+endingIn text ledger found endings.End = got (noMore ledger) (last [])
+endingIn text ledger found (endings.Stopped stop) = stopIn text stop
+
+abbrev pub endedBy : Header → Next → Ending
+endedBy header (Until at) = endings.Family header at
+endedBy header (Stopped stop) = endings.Stopped stop
+
+abbrev pub readIn : (ops : List ℕ) (r1 r2 : Strand) → FamilyRead → Header → Family
+readIn ops r1 r2 r header = family header (r .table) (take (header .words) ops) (held (r .r1) r1) (held (r .r2) r2)
+
+-- what a header announces has room: 9,000 words, 2,100 in COLS, 600 in LIST, 16 in MARKS
+pub record Announced (h : Header) : Type 0 where
+  pub words : h .words ≤ 9000
+  pub columns : h .columns ≤ 2100
+  pub list : h .list ≤ 600
+  pub marks : h .marks ≤ 16
 
 -- its place is in the text
 abbrev pub EndingWithin : List ℕ → Ending → Type 0
-EndingWithin text (endings.Family header at) = at ≤ length text
+EndingWithin text (endings.Family header at) = (at ≤ length text) × Announced header
 EndingWithin text endings.End = Unit {0}
 EndingWithin text (endings.Stopped stop) = stopPlace stop ≤ length text
 
 -- an answer agrees with a reading
-pub record FamilySteps (text ops : List ℕ) (r : FamilyRead) (reading : Reading Call) : Type 0 where
-  pub same : endingIn text (r .table) ops (r .ending) ≡ reading
+pub record FamilySteps (text ops : List ℕ) (r1 r2 : Strand) (r : FamilyRead) (reading : Reading Call) : Type 0 where
+  pub same : endingIn text (r .ledger) (readIn ops r1 r2 r) (r .ending) ≡ reading
   pub within : EndingWithin text (r .ending)
+  pub r1-held : Held (r .r1)
+  pub r2-held : Held (r .r2)
 
 abbrev pub HeaderSteps : List ℕ → Reading Header → HeaderNext → Type 0
-HeaderSteps text reading (headers.Found header at) = (got header (linesFrom text at) ≡ reading) × (at ≤ length text) × (header .words ≤ 9000)
+HeaderSteps text reading (headers.Found header at) = (got header (linesFrom text at) ≡ reading) × (at ≤ length text) × Announced header
 HeaderSteps text reading (headers.Stopped stop) = (stopIn text stop ≡ reading) × (stopPlace stop ≤ length text)

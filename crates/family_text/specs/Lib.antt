@@ -9,6 +9,5 @@ pub mod Parsed
 pub mod Reading
 pub mod Record
 pub mod Records
-pub mod SelectionText
 pub mod Strands
 pub mod Value

@@ -31,6 +31,12 @@ mapped f (got a rest) = got (f a) rest
 mapped f (wrong rest) = wrong rest
 mapped f (cut rest) = cut rest
 
+-- a function that is read, of what is read after it
+abbrev pub applied : {A B : Type 0} → Reading (A → B) → (Parts → Reading A) → Reading B
+applied (got f rest) second = mapped f (second rest)
+applied (wrong rest) second = wrong rest
+applied (cut rest) second = cut rest
+
 -- entries in front of those that are read after them
 abbrev pub gotAfter : {A : Type 0} → List A → Reading (List A) → Reading (List A)
 gotAfter xs (got ys rest) = got (xs ++ ys) rest
@@ -58,6 +64,11 @@ stopIn text (Cut at) = cut (linesFrom text at)
 abbrev pub nextIn : {A : Type 0} → List ℕ → A → Next → Reading A
 nextIn text a (Until at) = got a (linesFrom text at)
 nextIn text a (Stopped stop) = stopIn text stop
+
+-- what is read from such an answer on
+abbrev pub fromNext : {A : Type 0} → List ℕ → Next → (Parts → Reading A) → Reading A
+fromNext text (Until at) second = second (linesFrom text at)
+fromNext text (Stopped stop) second = stopIn text stop
 
 -- its place is in the text
 abbrev pub stopPlace : Stop → ℕ

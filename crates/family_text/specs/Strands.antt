@@ -1,45 +1,47 @@
--- The text form: `O W W ..`, then `B BASES / Q q q .. / D d d .. / E e e ..` for R1's strand if R1 is 1, then for R2's if R2 is 1.
+-- The text form: `B BASES / Q q q .. / D d d .. / E e e ..` for R1's strand if R1 is 1, then for R2's if R2 is 1.
 use mathlib.Core.Bool.{Bool, cond}
-use mathlib.Core.List.{List}
+use mathlib.Core.List.{List, []}
 use Prim.Native.Char.{code}
-use Prim.Native.Nat.{ℕ}
+use Prim.Native.Nat.{ℕ, _≤_}
+use lib.ListN.{length, take}
+use Rattle.codec_duplex.specs.Columns.{Strand, strand}
+use Rattle.codec_family.specs.declared.room.Widths.{Widths}
 use Rattle.table_text.specs.Parts.{Parts}
 use Rattle.family_text.specs.Bases.{basesLine}
-use Rattle.family_text.specs.Numbers.{numbersLine, wordsLine}
-use Rattle.family_text.specs.Parsed.{Parsed, parsed, unparsed}
-use Rattle.family_text.specs.Reading.{Reading, got, andNext, oneLine}
+use Rattle.family_text.specs.Numbers.{numbersLine}
+use Rattle.family_text.specs.Reading.{Reading, got, mapped, applied, oneLine}
 
--- nothing but that a line is well-formed
-abbrev pub checked : {A : Type 0} → Parsed A → Parsed (Unit {0})
-checked (parsed a) = parsed tt
-checked unparsed = unparsed
-
-abbrev pub baseLine : List ℕ → Parsed (Unit {0})
-baseLine line = checked (basesLine line)
-
--- at most 1,100 places
-abbrev pub columnLine : ℕ → ℕ → List ℕ → Parsed (Unit {0})
-columnLine tag limit line = checked (numbersLine tag limit 1100 line)
-
--- depths and errors go to 65,535
-unfoldable pub countsFrom : Parts → Reading (Unit {0})
-countsFrom text = andNext (oneLine (columnLine (code "D") 65535) text) λ _ rest. oneLine (columnLine (code "E") 65535) rest
+-- a line of at most 1,100 numbers
+unfoldable pub columnFrom : ℕ → ℕ → Parts → Reading (List ℕ)
+columnFrom tag limit text = oneLine (numbersLine tag limit 1100) text
 
 -- qualities go to 255
-unfoldable pub columnsFrom : Parts → Reading (Unit {0})
-columnsFrom text = andNext (oneLine (columnLine (code "Q") 255) text) λ _ rest. countsFrom rest
+abbrev pub qualitiesFrom : Parts → Reading (List ℕ)
+qualitiesFrom = columnFrom (code "Q") 255
 
--- a strand's four lines
-unfoldable pub strandFrom : Parts → Reading (Unit {0})
-strandFrom text = andNext (oneLine baseLine text) λ _ rest. columnsFrom rest
+-- a strand's four lines; depths and errors go to 65,535
+unfoldable pub strandFrom : Parts → Reading Strand
+strandFrom text =
+    applied (applied (applied (mapped strand (oneLine basesLine text)) qualitiesFrom) (columnFrom (code "D") 65535))
+    (columnFrom (code "E") 65535)
 
--- where it is present
-unfoldable pub strandIf : Bool → Parts → Reading (Unit {0})
-strandIf present text = cond present (strandFrom text) (got tt text)
+-- where it is present; an absent one has no columns
+unfoldable pub strandIf : Bool → Parts → Reading Strand
+strandIf present text = cond present (strandFrom text) (got (strand [] [] [] []) text)
 
-unfoldable pub strandsFrom : Bool → Bool → Parts → Reading (Unit {0})
-strandsFrom r1 r2 text = andNext (strandIf r1 text) λ _ rest. strandIf r2 rest
+-- a strand that stands in the first places of four columns
+abbrev pub held : Widths → Strand → Strand
+held w s = strand (take (w .bases) (s .bases)) (take (w .quals) (s .quals)) (take (w .depths) (s .depths)) (take (w .errors) (s .errors))
 
--- the words, and the strands after them
-unfoldable pub wordsThen : ℕ → Bool → Bool → Parts → Reading (List ℕ)
-wordsThen count r1 r2 text = andNext (oneLine (wordsLine count) text) λ words rest. andNext (strandsFrom r1 r2 rest) λ _ end. got words end
+pub record Held (w : Widths) : Type 0 where
+  pub bases : w .bases ≤ 1100
+  pub quals : w .quals ≤ 1100
+  pub depths : w .depths ≤ 1100
+  pub errors : w .errors ≤ 1100
+
+-- columns with room for a strand
+pub record Roomy (s : Strand) : Type 0 where
+  pub bases : 1100 ≤ length (s .bases)
+  pub quals : 1100 ≤ length (s .quals)
+  pub depths : 1100 ≤ length (s .depths)
+  pub errors : 1100 ≤ length (s .errors)

@@ -3,7 +3,8 @@ use crate::line;
 use crate::line::Tag;
 use table_text::parts;
 ghost use mathlib.Core.Path.{_≡_};
-ghost use Rattle.family_text.specs.Bases.{basesIn, basesLine};
+ghost use lib.ListN.{length};
+ghost use Rattle.family_text.specs.Bases.{BasesWithin, basesIn, basesLine};
 
 // Where the bases of a line begin and end.
 pub enum Bases {
@@ -13,6 +14,7 @@ pub enum Bases {
 
 pub fn read_bases(line: &[u8]) -> Bases
     ensures { λ r. ⌜ basesIn (now (line .entry)) r ≡ basesLine (now (line .entry)) ⌝ }
+    ensures { λ r. ⌜ BasesWithin (length (now (line .entry))) r ⌝ }
 {
     let Tag::Until(start) = line::read_tag(line, b'B') else {
         return Bases::Malformed;

@@ -7,13 +7,17 @@ use crate::lines::Next;
 use crate::lines::Stop;
 use crate::records;
 use crate::strands;
+use codec_family::room::Widths;
 use codec_select::records::Record;
+use codec_stats::ledger::Ledger;
 use table_text::parts;
 ghost use mathlib.Core.Path.{_≡_};
 ghost use Prim.Native.Nat.{_≤_};
-ghost use lib.ListN.{length};
-ghost use Rattle.family_text.specs.Family.{HeaderSteps, FamilySteps, headerLine, wordsFrom, familyFrom, familyOf, callOf};
-ghost use Rattle.family_text.specs.Reading.{linesFrom, oneLine};
+ghost use lib.ListN.{length, take};
+ghost use Rattle.codec_duplex.specs.Columns.{strand};
+ghost use Rattle.family_text.specs.Family.{HeaderSteps, FamilySteps, call, headerLine, family, familyFrom, familyOf, callOf, endedBy};
+ghost use Rattle.family_text.specs.Reading.{Steps, linesFrom, mapped, oneLine};
+ghost use Rattle.family_text.specs.Strands.{held, Held, Roomy};
 
 // Room for the longest list of operation words.
 pub const WORDS: usize = 9000;
@@ -30,10 +34,21 @@ pub enum Ending {
     Stopped(Stop),
 }
 
-// The first 512 records by value, blank ones after them.
+// The first 512 records by value, blank ones after them; how long the columns of the strands are.
+pub struct Body {
+    pub next: Next,
+    pub table: [Record; records::RECORDS],
+    pub r1: Widths,
+    pub r2: Widths,
+}
+
+// A family with the ledger that it is handed.
 pub struct FamilyRead {
     pub ending: Ending,
+    pub ledger: Ledger,
     pub table: [Record; records::RECORDS],
+    pub r1: Widths,
+    pub r2: Widths,
 }
 
 fn next_header(text: &[u8], at: usize) -> HeaderNext
@@ -50,79 +65,191 @@ fn next_header(text: &[u8], at: usize) -> HeaderNext
     HeaderNext::Found(found, end + 1)
 }
 
-// What follows the records.
-fn next_words(
+// What follows the header.
+fn next_body(
     text: &[u8],
     at: usize,
     found: Header,
-    table: [Record; records::RECORDS],
     ops: &mut [u32],
-) -> FamilyRead
+    r1_bases: &mut [u8],
+    r1_quals: &mut [u8],
+    r1_depths: &mut [u16],
+    r1_errors: &mut [u16],
+    r2_bases: &mut [u8],
+    r2_quals: &mut [u8],
+    r2_depths: &mut [u16],
+    r2_errors: &mut [u16],
+) -> Body
     requires { ⌜ (at ≤ length (now text)) × (found .words ≤ length (now ops)) ⌝ }
-    ensures { λ r. ⌜ FamilySteps (now (text .entry)) (now (ops .exit)) r (wordsFrom found table (linesFrom (now (text .entry)) at)) ⌝ }
-{
-    match strands::next_words_and_strands(text, at, found.words, found.has_r1, found.has_r2, ops) {
-        Next::Stopped(stop) => FamilyRead {
-            ending: Ending::Stopped(stop),
-            table,
-        },
-        Next::Until(after) => FamilyRead {
-            ending: Ending::Family(found, after),
-            table,
-        },
-    }
-}
-
-// What follows the header.
-fn next_body(text: &[u8], at: usize, found: Header, ops: &mut [u32]) -> FamilyRead
-    requires { ⌜ (at ≤ length (now text)) × (found .words ≤ length (now ops)) ⌝ }
-    ensures { λ r. ⌜ FamilySteps (now (text .entry)) (now (ops .exit)) r (familyFrom found (linesFrom (now (text .entry)) at)) ⌝ }
+    requires { ⌜ Roomy (strand (now «r1_bases») (now «r1_quals») (now «r1_depths») (now «r1_errors»)) ⌝ }
+    requires { ⌜ Roomy (strand (now «r2_bases») (now «r2_quals») (now «r2_depths») (now «r2_errors»)) ⌝ }
+    ensures { λ r. ⌜
+        Steps (now (text .entry))
+        (family found (r .table) (take (found .words) (now (ops .exit)))
+        (held (r .r1) (strand (now («r1_bases» .exit)) (now («r1_quals» .exit)) (now («r1_depths» .exit)) (now («r1_errors» .exit))))
+        (held (r .r2) (strand (now («r2_bases» .exit)) (now («r2_quals» .exit)) (now («r2_depths» .exit)) (now («r2_errors» .exit)))))
+        (r .next) (familyFrom found (linesFrom (now (text .entry)) at)) ⌝ }
+    ensures { λ r. ⌜ Held (r .r1) × Held (r .r2) ⌝ }
 {
     let rows = records::next_records(text, at, found.records);
-    let next = rows.next;
     let table = rows.table;
+    let at_words = rows.next;
+    let at_r1 = strands::next_words(text, at_words, found.words, ops);
+    let in_r1 = strands::next_strand(
+        text,
+        at_r1,
+        found.has_r1,
+        r1_bases,
+        r1_quals,
+        r1_depths,
+        r1_errors,
+    );
+    let at_r2 = in_r1.next;
+    let in_r2 = strands::next_strand(
+        text,
+        at_r2,
+        found.has_r2,
+        r2_bases,
+        r2_quals,
+        r2_depths,
+        r2_errors,
+    );
+    let next = in_r2.next;
+    let r1 = in_r1.widths;
+    let r2 = in_r2.widths;
+    Body {
+        next,
+        table,
+        r1,
+        r2,
+    }
+}
+
+fn ended(found: Header, next: Next) -> Ending
+    ensures { λ r. ⌜ r ≡ endedBy found next ⌝ }
+{
     match next {
-        Next::Stopped(stop) => FamilyRead {
-            ending: Ending::Stopped(stop),
-            table,
-        },
-        Next::Until(after) => next_words(text, after, found, table, ops),
+        Next::Until(after) => Ending::Family(found, after),
+        Next::Stopped(stop) => Ending::Stopped(stop),
     }
 }
 
-fn family_at(text: &[u8], at: usize, ops: &mut [u32]) -> FamilyRead
+// Nothing was read but the ledger.
+fn unread(ending: Ending, ledger: Ledger) -> FamilyRead
+    ensures { λ r. ⌜ (r .ending ≡ ending) × (r .ledger ≡ ledger) × Held (r .r1) × Held (r .r2) ⌝ }
+{
+    FamilyRead {
+        ending,
+        ledger,
+        table: records::blank_table(),
+        r1: strands::no_widths(),
+        r2: strands::no_widths(),
+    }
+}
+
+fn family_at(
+    text: &[u8],
+    at: usize,
+    ledger: Ledger,
+    ops: &mut [u32],
+    r1_bases: &mut [u8],
+    r1_quals: &mut [u8],
+    r1_depths: &mut [u16],
+    r1_errors: &mut [u16],
+    r2_bases: &mut [u8],
+    r2_quals: &mut [u8],
+    r2_depths: &mut [u16],
+    r2_errors: &mut [u16],
+) -> FamilyRead
     requires { ⌜ (at ≤ length (now text)) × (9000 ≤ length (now ops)) ⌝ }
-    ensures { λ r. ⌜ FamilySteps (now (text .entry)) (now (ops .exit)) r (familyOf (linesFrom (now (text .entry)) at)) ⌝ }
+    requires { ⌜ Roomy (strand (now «r1_bases») (now «r1_quals») (now «r1_depths») (now «r1_errors»)) ⌝ }
+    requires { ⌜ Roomy (strand (now «r2_bases») (now «r2_quals») (now «r2_depths») (now «r2_errors»)) ⌝ }
+    ensures { λ r. ⌜
+        FamilySteps (now (text .entry)) (now (ops .exit))
+        (strand (now («r1_bases» .exit)) (now («r1_quals» .exit)) (now («r1_depths» .exit)) (now («r1_errors» .exit)))
+        (strand (now («r2_bases» .exit)) (now («r2_quals» .exit)) (now («r2_depths» .exit)) (now («r2_errors» .exit)))
+        r (mapped (call ledger) (familyOf (linesFrom (now (text .entry)) at))) ⌝ }
 {
-    let table = records::blank_table();
     match next_header(text, at) {
-        HeaderNext::Stopped(stop) => FamilyRead {
-            ending: Ending::Stopped(stop),
-            table,
-        },
-        HeaderNext::Found(found, after) => next_body(text, after, found, ops),
+        HeaderNext::Stopped(stop) => unread(Ending::Stopped(stop), ledger),
+        HeaderNext::Found(found, after) => {
+            let body = next_body(
+                text,
+                after,
+                found,
+                ops,
+                r1_bases,
+                r1_quals,
+                r1_depths,
+                r1_errors,
+                r2_bases,
+                r2_quals,
+                r2_depths,
+                r2_errors,
+            );
+            let next = body.next;
+            let table = body.table;
+            let r1 = body.r1;
+            let r2 = body.r2;
+            FamilyRead {
+                ending: ended(found, next),
+                ledger,
+                table,
+                r1,
+                r2,
+            }
+        }
     }
 }
 
-// The next family of a text whose lines begin at `start`, or where the reading stops.
-pub fn next_family(text: &[u8], start: usize, ops: &mut [u32]) -> FamilyRead
+// The next family of a text whose lines begin at `start`, or where the reading stops; the ledger so far is handed to it, or that of the
+// last line of figures in front of it.
+pub fn next_family(
+    text: &[u8],
+    start: usize,
+    ledger: Ledger,
+    ops: &mut [u32],
+    r1_bases: &mut [u8],
+    r1_quals: &mut [u8],
+    r1_depths: &mut [u16],
+    r1_errors: &mut [u16],
+    r2_bases: &mut [u8],
+    r2_quals: &mut [u8],
+    r2_depths: &mut [u16],
+    r2_errors: &mut [u16],
+) -> FamilyRead
     requires { ⌜ (start ≤ length (now text)) × (9000 ≤ length (now ops)) ⌝ }
-    ensures { λ r. ⌜ FamilySteps (now (text .entry)) (now (ops .exit)) r (callOf (linesFrom (now (text .entry)) start)) ⌝ }
+    requires { ⌜ Roomy (strand (now «r1_bases») (now «r1_quals») (now «r1_depths») (now «r1_errors»)) ⌝ }
+    requires { ⌜ Roomy (strand (now «r2_bases») (now «r2_quals») (now «r2_depths») (now «r2_errors»)) ⌝ }
+    ensures { λ r. ⌜
+        FamilySteps (now (text .entry)) (now (ops .exit))
+        (strand (now («r1_bases» .exit)) (now («r1_quals» .exit)) (now («r1_depths» .exit)) (now («r1_errors» .exit)))
+        (strand (now («r2_bases» .exit)) (now («r2_quals» .exit)) (now («r2_depths» .exit)) (now («r2_errors» .exit)))
+        r (callOf ledger (linesFrom (now (text .entry)) start)) ⌝ }
 {
-    let table = records::blank_table();
-    match ledgers::skip_ledgers(text, start) {
-        Next::Stopped(stop) => FamilyRead {
-            ending: Ending::Stopped(stop),
-            table,
-        },
+    let given = ledgers::read_ledgers(text, start, ledger);
+    let handed = given.ledger;
+    let next = given.next;
+    match next {
+        Next::Stopped(stop) => unread(Ending::Stopped(stop), handed),
         Next::Until(at) => {
             if at == text.len() {
-                FamilyRead {
-                    ending: Ending::End,
-                    table,
-                }
+                unread(Ending::End, handed)
             } else {
-                family_at(text, at, ops)
+                family_at(
+                    text,
+                    at,
+                    handed,
+                    ops,
+                    r1_bases,
+                    r1_quals,
+                    r1_depths,
+                    r1_errors,
+                    r2_bases,
+                    r2_quals,
+                    r2_depths,
+                    r2_errors,
+                )
             }
         }
     }

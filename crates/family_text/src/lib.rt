@@ -1,5 +1,6 @@
-// Family calls as text: read one at a time, and the answers of selection written.
+// Family calls as text, read one at a time.
 pub mod bases;
+pub mod column;
 pub mod family;
 pub mod header;
 pub mod ledgers;
@@ -8,6 +9,5 @@ pub mod lines;
 pub mod numbers;
 pub mod record;
 pub mod records;
-pub mod selection_text;
 pub mod strands;
 pub mod value;

@@ -1,23 +1,27 @@
 // The lines of a family after its records: the operation words, and four columns for each strand.
-use crate::bases;
-use crate::bases::Bases;
+use crate::column;
 use crate::lines::Next;
 use crate::lines::Stop;
 use crate::numbers;
 use crate::numbers::Numbers;
+use codec_family::room::Widths;
 use table_text::parts;
 ghost use mathlib.Core.Path.{_≡_};
 ghost use Prim.Native.Nat.{_≤_};
 ghost use lib.ListN.{length, take};
+ghost use Rattle.codec_duplex.specs.Columns.{strand};
 ghost use Rattle.family_text.specs.Numbers.{wordsLine};
-ghost use Rattle.family_text.specs.Reading.{Steps, linesFrom, oneLine};
-ghost use Rattle.family_text.specs.Strands.{baseLine, columnLine, countsFrom, columnsFrom, strandFrom, strandIf, strandsFrom, wordsThen};
+ghost use Rattle.family_text.specs.Reading.{Steps, linesFrom, fromNext, nextPlace, oneLine};
+ghost use Rattle.family_text.specs.Strands.{strandFrom, strandIf, held, Held, Roomy};
 
-// A strand has at most 1,100 places.
-pub const PLACES: usize = 1100;
+// How long a strand's columns are, and where the next line begins.
+pub struct StrandRead {
+    pub next: Next,
+    pub widths: Widths,
+}
 
 // The words of a line, exactly as many as announced, into a column's first places.
-fn next_words(text: &[u8], at: usize, count: usize, ops: &mut [u32]) -> Next
+fn words_at(text: &[u8], at: usize, count: usize, ops: &mut [u32]) -> Next
     requires { ⌜ (at ≤ length (now text)) × (count ≤ length (now ops)) ⌝ }
     ensures { λ r. ⌜ Steps (now (text .entry)) (take count (now (ops .exit))) r (oneLine (wordsLine count) (linesFrom (now (text .entry)) at)) ⌝ }
 {
@@ -36,104 +40,88 @@ fn next_words(text: &[u8], at: usize, count: usize, ops: &mut [u32]) -> Next
     }
 }
 
-// A line of a strand's numbers.
-fn next_column(text: &[u8], at: usize, tag: u8, limit: u64) -> Next
-    requires { ⌜ (at ≤ length (now text)) × (limit ≤ 4294967295) ⌝ }
-    ensures { λ r. ⌜ Steps (now (text .entry)) tt r (oneLine (columnLine tag limit) (linesFrom (now (text .entry)) at)) ⌝ }
+// The same where the records before it were read.
+pub fn next_words(text: &[u8], from: Next, count: usize, ops: &mut [u32]) -> Next
+    requires { ⌜ (nextPlace from ≤ length (now text)) × (count ≤ length (now ops)) ⌝ }
+    ensures { λ r. ⌜ Steps (now (text .entry)) (take count (now (ops .exit))) r (fromNext (now (text .entry)) from (oneLine (wordsLine count))) ⌝ }
 {
-    let end = parts::part_end(text, at, b'\n');
-    if text.len() <= end {
-        return Next::Stopped(Stop::Cut(at));
-    }
-    let mut column = [0u32; PLACES];
-    let Numbers::Count(_) = numbers::read_numbers(&text[at..end], tag, limit, PLACES, &mut column)
-    else {
-        return Next::Stopped(Stop::Malformed(at));
-    };
-    Next::Until(end + 1)
-}
-
-// A line of a strand's bases.
-fn next_bases(text: &[u8], at: usize) -> Next
-    requires { ⌜ at ≤ length (now text) ⌝ }
-    ensures { λ r. ⌜ Steps (now (text .entry)) tt r (oneLine baseLine (linesFrom (now (text .entry)) at)) ⌝ }
-{
-    let end = parts::part_end(text, at, b'\n');
-    if text.len() <= end {
-        return Next::Stopped(Stop::Cut(at));
-    }
-    let Bases::Between(_, _) = bases::read_bases(&text[at..end]) else {
-        return Next::Stopped(Stop::Malformed(at));
-    };
-    Next::Until(end + 1)
-}
-
-fn next_counts(text: &[u8], at: usize) -> Next
-    requires { ⌜ at ≤ length (now text) ⌝ }
-    ensures { λ r. ⌜ Steps (now (text .entry)) tt r (countsFrom (linesFrom (now (text .entry)) at)) ⌝ }
-{
-    match next_column(text, at, b'D', 65535) {
+    match from {
         Next::Stopped(stop) => Next::Stopped(stop),
-        Next::Until(after) => next_column(text, after, b'E', 65535),
+        Next::Until(at) => words_at(text, at, count, ops),
     }
 }
 
-fn next_columns(text: &[u8], at: usize) -> Next
-    requires { ⌜ at ≤ length (now text) ⌝ }
-    ensures { λ r. ⌜ Steps (now (text .entry)) tt r (columnsFrom (linesFrom (now (text .entry)) at)) ⌝ }
+pub(crate) fn no_widths() -> Widths
+    ensures { λ r. ⌜ r ≡ record { bases = 0; quals = 0; depths = 0; errors = 0 } ⌝ }
 {
-    match next_column(text, at, b'Q', 255) {
-        Next::Stopped(stop) => Next::Stopped(stop),
-        Next::Until(after) => next_counts(text, after),
+    Widths {
+        bases: 0,
+        quals: 0,
+        depths: 0,
+        errors: 0,
     }
 }
 
 // The four lines of a strand.
-fn next_strand(text: &[u8], at: usize) -> Next
-    requires { ⌜ at ≤ length (now text) ⌝ }
-    ensures { λ r. ⌜ Steps (now (text .entry)) tt r (strandFrom (linesFrom (now (text .entry)) at)) ⌝ }
-{
-    match next_bases(text, at) {
-        Next::Stopped(stop) => Next::Stopped(stop),
-        Next::Until(after) => next_columns(text, after),
-    }
-}
-
-fn next_strand_if(text: &[u8], at: usize, present: bool) -> Next
-    requires { ⌜ at ≤ length (now text) ⌝ }
-    ensures { λ r. ⌜ Steps (now (text .entry)) tt r (strandIf present (linesFrom (now (text .entry)) at)) ⌝ }
-{
-    if present {
-        next_strand(text, at)
-    } else {
-        Next::Until(at)
-    }
-}
-
-fn next_strands(text: &[u8], at: usize, first: bool, second: bool) -> Next
-    requires { ⌜ at ≤ length (now text) ⌝ }
-    ensures { λ r. ⌜ Steps (now (text .entry)) tt r (strandsFrom first second (linesFrom (now (text .entry)) at)) ⌝ }
-{
-    match next_strand_if(text, at, first) {
-        Next::Stopped(stop) => Next::Stopped(stop),
-        Next::Until(after) => next_strand_if(text, after, second),
-    }
-}
-
-// The operation words, and the strands that are there.
-pub fn next_words_and_strands(
+fn strand_at(
     text: &[u8],
     at: usize,
-    count: usize,
-    first: bool,
-    second: bool,
-    ops: &mut [u32],
-) -> Next
-    requires { ⌜ (at ≤ length (now text)) × (count ≤ length (now ops)) ⌝ }
-    ensures { λ r. ⌜ Steps (now (text .entry)) (take count (now (ops .exit))) r (wordsThen count first second (linesFrom (now (text .entry)) at)) ⌝ }
+    bases: &mut [u8],
+    quals: &mut [u8],
+    depths: &mut [u16],
+    errors: &mut [u16],
+) -> StrandRead
+    requires { ⌜ (at ≤ length (now text)) × Roomy (strand (now bases) (now quals) (now depths) (now errors)) ⌝ }
+    ensures { λ r. ⌜ Steps (now (text .entry)) (held (r .widths) (strand (now (bases .exit)) (now (quals .exit)) (now (depths .exit)) (now (errors .exit)))) (r .next) (strandFrom (linesFrom (now (text .entry)) at)) ⌝ }
+    ensures { λ r. ⌜ Held (r .widths) ⌝ }
 {
-    match next_words(text, at, count, ops) {
-        Next::Stopped(stop) => Next::Stopped(stop),
-        Next::Until(after) => next_strands(text, after, first, second),
+    let in_bases = column::next_bases(text, at, bases);
+    let at_quals = in_bases.next;
+    let in_quals = column::next_qualities(text, at_quals, quals);
+    let at_depths = in_quals.next;
+    let in_depths = column::next_counts(text, at_depths, b'D', depths);
+    let at_errors = in_depths.next;
+    let in_errors = column::next_counts(text, at_errors, b'E', errors);
+    let next = in_errors.next;
+    StrandRead {
+        next,
+        widths: Widths {
+            bases: in_bases.length,
+            quals: in_quals.length,
+            depths: in_depths.length,
+            errors: in_errors.length,
+        },
+    }
+}
+
+// A strand that is there, where the lines before it were read.
+pub fn next_strand(
+    text: &[u8],
+    from: Next,
+    present: bool,
+    bases: &mut [u8],
+    quals: &mut [u8],
+    depths: &mut [u16],
+    errors: &mut [u16],
+) -> StrandRead
+    requires { ⌜ (nextPlace from ≤ length (now text)) × Roomy (strand (now bases) (now quals) (now depths) (now errors)) ⌝ }
+    ensures { λ r. ⌜ Steps (now (text .entry)) (held (r .widths) (strand (now (bases .exit)) (now (quals .exit)) (now (depths .exit)) (now (errors .exit)))) (r .next) (fromNext (now (text .entry)) from (strandIf present)) ⌝ }
+    ensures { λ r. ⌜ Held (r .widths) ⌝ }
+{
+    match from {
+        Next::Stopped(stop) => StrandRead {
+            next: Next::Stopped(stop),
+            widths: no_widths(),
+        },
+        Next::Until(at) => {
+            if present {
+                strand_at(text, at, bases, quals, depths, errors)
+            } else {
+                StrandRead {
+                    next: Next::Until(at),
+                    widths: no_widths(),
+                }
+            }
+        }
     }
 }

@@ -3,50 +3,23 @@
 mod answers;
 mod passes;
 
-use libc::STDERR_FILENO;
+use family_windows::output;
+use family_windows::output::Verdict;
+use family_windows::windows;
+use family_windows::windows::Size;
 use libc::STDIN_FILENO;
-use libc::STDOUT_FILENO;
-use passes::Verdict;
-
-fn write_refusal(line: usize) {
-    io::write_all(STDOUT_FILENO, b"refused 13 ");
-    io::print_decimal(STDOUT_FILENO, line as u64);
-    io::write_all(STDOUT_FILENO, b"\n");
-}
-
-fn report(verdict: Verdict) {
-    match verdict {
-        Verdict::Read => {}
-        Verdict::Malformed(line) => write_refusal(line),
-        Verdict::Unreadable => {
-            io::write_all(STDERR_FILENO, b"the input could not be read to its end\n");
-        }
-    }
-}
 
 // Nothing is answered before every line is known to be well formed, so the input is read twice.
 fn answer_file(file: i32) {
-    let size = libc::lseek(file, 0, libc::SEEK_END);
-    if size < 0 {
-        io::write_all(
-            STDERR_FILENO,
-            b"the input is read twice: it has to be a file, and not a pipe\n",
-        );
+    let Size::Bytes(bytes) = windows::file_size(file) else {
         return;
-    }
-    let bytes = size as usize;
+    };
     let checked = passes::read_families(file, bytes, false);
     if let Verdict::Read = checked {
-        report(passes::read_families(file, bytes, true));
+        output::report(passes::read_families(file, bytes, true));
     } else {
-        report(checked);
+        output::report(checked);
     }
-}
-
-fn title(name: &[u8]) {
-    io::write_all(STDOUT_FILENO, b"== ");
-    io::write_all(STDOUT_FILENO, name);
-    io::write_all(STDOUT_FILENO, b"\n");
 }
 
 fn run_file(i: usize) {
@@ -57,7 +30,7 @@ fn run_file(i: usize) {
         os::fail(&name[..length]);
         return;
     }
-    title(&name[..length]);
+    output::title(&name[..length]);
     answer_file(file);
     libc::close(file);
 }

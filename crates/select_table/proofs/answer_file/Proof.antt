@@ -1,52 +1,28 @@
--- A size that is not below zero has 63 bits.
-use mathlib.Core.Bool.{Bool, true, false}
-use mathlib.Core.Path.{_≡_}
-use Prim.Native.Nat.{ℕ, _^_, _<_}
-use native.Mathlib.Omega.{arith}
+-- The size that is found has 63 bits.
 use borrow.Author.Needs.{needs}
-use lib.Dec.{T}
-use lib.IntN.{ℤ, pos, negsuc, natAbs}
-use lib.Signed.{ltZ, nonNeg}
-use mir.Facts.{toZ-ofZ}
-use mir.Syntax.{w64}
-use mir.Val.{SFits, toZ, ofZ}
 use Rattle.select_table.proofs.answer_file.Statement.{statement}
 use Rattle.select_table.proofs.answer_file.Tie as tie
 
--- what is not below zero is a number of 63 bits
-counted : (z : ℤ) → SFits w64 z → ltZ z (pos 0) ≡ false → T (nonNeg z) × (natAbs z < 2 ^ 63)
-counted (pos n) h e = (tt, omega (arith, h .sfits))
-counted (negsuc n) h e = let z : _≡_ {A = Bool} true false = e in let o : _≡_ {A = ℕ} 0 1 = cc in absurd (omega arith)
+file-size-requires : tie.Need-file-size-requires
+file-size-requires c κs = search needs
 
--- the size that the file has
-size-counted : (c : tie.Else1) → T (nonNeg (toZ w64 (ofZ w64 (c .before .lseek .result)))) × (natAbs (toZ w64 (ofZ w64 (c .before .lseek .result))) < 2 ^ 63)
-size-counted c =
-    let fits : SFits w64 (c .before .lseek .result) = record { sfits = c .before .lseek .ok } in
-    rw (toZ-ofZ fits) (counted (c .before .lseek .result) fits (rw (toZ-ofZ fits) at (c .if1 .left)))
-
-lseek-requires : tie.Need-lseek-requires
-lseek-requires c κs = search needs
-
-slice-aggregate-write-all : tie.Need-slice-aggregate-write-all
-slice-aggregate-write-all c = search needs
-
-write-all-requires : tie.Need-write-all-requires
-write-all-requires c κs = search needs
-
-returns : tie.Need-returns
-returns c = search needs
-
-cast-bytes : tie.Need-cast-bytes
-cast-bytes c = (size-counted c .0, record { fits = omega (arith, size-counted c .1) })
-
-read-families-requires : tie.Need-read-families-requires
-read-families-requires c κs = size-counted c .1
+enum-known-bytes : tie.Need-enum-known-bytes
+enum-known-bytes c = search needs
 
 enum-told : tie.Need-enum-told
 enum-told c = search needs
 
+returns : tie.Need-returns
+returns c = search needs
+
+read-families-requires : tie.Need-read-families-requires
+read-families-requires c κs = rw (c .before .bytes .given .1) at (c .before .before .before .file-size .ensures)
+
+enum-told-2 : tie.Need-enum-told-2
+enum-told-2 c = search needs
+
 read-families-requires-2 : tie.Need-read-families-requires-2
-read-families-requires-2 c κs = size-counted (c .before .before .before) .1
+read-families-requires-2 c κs = rw (c .before .before .before .before .bytes .given .1) at (c .before .before .before .before .before .before .file-size .ensures)
 
 report-requires : tie.Need-report-requires
 report-requires c κs = search needs
@@ -64,13 +40,12 @@ pub answer-file-spec : {M : Type 1} → statement M
 answer-file-spec =
     tie.close
     (tie.spec
-    lseek-requires
-    slice-aggregate-write-all
-    write-all-requires
-    returns
-    cast-bytes
-    read-families-requires
+    file-size-requires
+    enum-known-bytes
     enum-told
+    returns
+    read-families-requires
+    enum-told-2
     read-families-requires-2
     report-requires
     report-requires-2

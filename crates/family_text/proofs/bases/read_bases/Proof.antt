@@ -40,11 +40,11 @@ enum-told c = search needs
 
 returns : tie.Need-returns
 unfolding basesLine
-returns c = rw (← c .before .before .read-tag .ensures, c .enum-told .given .1)
+returns c = (rw (← c .before .before .read-tag .ensures, c .enum-told .given .1), tt)
 
 returns-2 : tie.Need-returns-2
 unfolding basesLine basesOf
-returns-2 c = rw (← c .before .before .before .before .read-tag .ensures, c .before .before .start .given .1, fields-none _ _ (c .if1 .taken))
+returns-2 c = (rw (← c .before .before .before .before .read-tag .ensures, c .before .before .start .given .1, fields-none _ _ (c .if1 .taken)), (omega arith, omega arith, omega arith))
 
 part-end-requires : tie.Need-part-end-requires
 part-end-requires c κs = search needs
@@ -52,12 +52,12 @@ part-end-requires c κs = search needs
 returns-3 : tie.Need-returns-3
 unfolding basesLine
 returns-3 c = let found = c .before .part-end .ensures in
-    rw (← c .before .before .before .before .before .before .read-tag .ensures, c .before .before .before .before .start .given .1, another _ _ _ (c .before .before .if1 .left) (found .0) (found .1) (c .if2 .taken))
+    (rw (← c .before .before .before .before .before .before .read-tag .ensures, c .before .before .before .before .start .given .1, another _ _ _ (c .before .before .if1 .left) (found .0) (found .1) (c .if2 .taken)), tt)
 
 returns-4 : tie.Need-returns-4
 unfolding basesLine
 returns-4 c = let found = c .before .before .part-end .ensures in
-    rw (← c .before .before .before .before .before .before .before .read-tag .ensures, c .before .before .before .before .before .start .given .1, only _ _ _ (c .before .before .before .if1 .left) (found .0) (found .1) (c .before .if2 .left), lt-leb 1 (c .before .before .part-end .result - c .before .before .before .before .before .start .given .0 .0) (omega (arith, c .if3 .taken)))
+    (rw (← c .before .before .before .before .before .before .before .read-tag .ensures, c .before .before .before .before .before .start .given .1, only _ _ _ (c .before .before .before .if1 .left) (found .0) (found .1) (c .before .if2 .left), lt-leb 1 (c .before .before .part-end .result - c .before .before .before .before .before .start .given .0 .0) (omega (arith, c .if3 .taken))), tt)
 
 sub-if4 : tie.Need-sub-if4
 sub-if4 c = search needs
@@ -65,12 +65,12 @@ sub-if4 c = search needs
 returns-5 : tie.Need-returns-5
 unfolding basesLine
 returns-5 c = let found = c .before .before .before .part-end .ensures in
-    rw (← c .before .before .before .before .before .before .before .before .read-tag .ensures, c .before .before .before .before .before .before .start .given .1, only _ _ _ (c .before .before .before .before .if1 .left) (found .0) (found .1) (c .before .before .if2 .left), lt-leb _ 1100 (c .if4 .taken), and-false)
+    (rw (← c .before .before .before .before .before .before .before .before .read-tag .ensures, c .before .before .before .before .before .before .start .given .1, only _ _ _ (c .before .before .before .before .if1 .left) (found .0) (found .1) (c .before .before .if2 .left), lt-leb _ 1100 (c .if4 .taken), and-false), tt)
 
 returns-6 : tie.Need-returns-6
 unfolding basesLine
 returns-6 c = let found = c .before .before .before .part-end .ensures in
-    rw (← c .before .before .before .before .before .before .before .before .read-tag .ensures, c .before .before .before .before .before .before .start .given .1, only _ _ _ (c .before .before .before .before .if1 .left) (found .0) (found .1) (c .before .before .if2 .left), le-leb 1 (c .before .before .before .part-end .result - c .before .before .before .before .before .before .start .given .0 .0) (nonzero _ _ _ (found .0) (c .before .if3 .left)), le-leb _ 1100 (c .if4 .left))
+    (rw (← c .before .before .before .before .before .before .before .before .read-tag .ensures, c .before .before .before .before .before .before .start .given .1, only _ _ _ (c .before .before .before .before .if1 .left) (found .0) (found .1) (c .before .before .if2 .left), le-leb 1 (c .before .before .before .part-end .result - c .before .before .before .before .before .before .start .given .0 .0) (nonzero _ _ _ (found .0) (c .before .if3 .left)), le-leb _ 1100 (c .if4 .left)), (omega arith, omega arith, omega arith))
 
 pub read-bases-spec : {M : Type 1} → statement M
 read-bases-spec =

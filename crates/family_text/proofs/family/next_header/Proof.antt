@@ -3,7 +3,7 @@ use mathlib.Core.Path.{sym}
 use native.Mathlib.Omega.{arith}
 use borrow.Author.Needs.{needs}
 use Rattle.family_text.specs.Family.{headerLine}
-use Rattle.family_text.proofs.Calls.{header-words, line-header}
+use Rattle.family_text.proofs.Calls.{header-announced, line-header}
 use Rattle.family_text.proofs.Readings.{line-cut}
 use Rattle.family_text.proofs.family.next_header.Statement.{statement}
 use Rattle.family_text.proofs.family.next_header.Tie as tie
@@ -39,7 +39,7 @@ add-t5 : tie.Need-add-t5
 add-t5 c = search needs
 
 returns-3 : tie.Need-returns-3
-returns-3 c = (sym (rw (c .before .found .given .1) at (line-header _ _ _ (c .before .before .before .before .before .before .part-end .ensures .0) (omega arith) (c .before .before .before .before .before .if1 .left) _ (c .before .before .before .header-line .ensures))), omega arith, header-words _ _ (rw (c .before .found .given .1) at (c .before .before .before .header-line .ensures)))
+returns-3 c = (sym (rw (c .before .found .given .1) at (line-header _ _ _ (c .before .before .before .before .before .before .part-end .ensures .0) (omega arith) (c .before .before .before .before .before .if1 .left) _ (c .before .before .before .header-line .ensures))), omega arith, header-announced _ _ (rw (c .before .found .given .1) at (c .before .before .before .header-line .ensures)))
 
 pub next-header-spec : {M : Type 1} → statement M
 next-header-spec =

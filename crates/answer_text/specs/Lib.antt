@@ -1,0 +1,3 @@
+pub mod FamilyText
+pub mod Line
+pub mod SelectionText
