@@ -1,9 +1,8 @@
 -- Laws of a family's answer, written part by part.
 use mathlib.Core.Bool.{true, false}
 use mathlib.Core.List.{List, [], _∷_, _++_}
-use mathlib.Core.Path.{_≡_, refl}
+use mathlib.Core.Path.{_≡_}
 use Prim.Native.Nat.{ℕ}
-use native.Mathlib.Omega.{arith}
 use lib.ListN.{take}
 use Rattle.codec_family.specs.Answer.{saysCalled, saysRefused}
 use Rattle.codec_family.specs.Call.{Lent}
@@ -13,10 +12,7 @@ use Rattle.table_text.specs.Text.{bytesOf}
 use Rattle.table_text.proofs.Stores.{stored-then}
 use Rattle.answer_text.specs.FamilyText.{endingText, listText, ledgerText, columnsText, resultsText, familyText}
 use Rattle.answer_text.specs.Line.{lineText}
-
--- nothing is stored
-none-stored : (old : List ℕ) (to : ℕ) → Stored [] old to old to
-none-stored old to = (omega arith, refl)
+use Rattle.answer_text.proofs.Lines.{none-stored}
 
 module _ (answer : FamilyAnswer) (lent : Lent) (old : List ℕ) (to : ℕ) where
   -- how it ends, the results, the ledger

@@ -21,6 +21,10 @@ copied-stored text old new to h e =
     let after : drop (length old - to) (drop to old) ≡ [] = drop-of-length-le (drop to old) {i = length old - to} (simp length-drop (omega arith)) in
     rw (e, whole, after, take-length, append-nil, drop-drop, sets-eq text old to h, append-assoc)
 
+-- nothing is stored
+pub none-stored : (old : List ℕ) (to : ℕ) → Stored [] old to old to
+none-stored old to = (omega arith, refl)
+
 -- the texts of the first i places are stored, each at most so wide
 pub record Storing (at : ℕ → List ℕ) (width : ℕ) (old : List ℕ) (to : ℕ) (new : List ℕ) (end i : ℕ) : Type 0 where
   pub stored : Stored (texts at i) old to new end

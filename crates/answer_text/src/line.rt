@@ -8,7 +8,7 @@ ghost use Rattle.table_text.specs.OutputTable.{Stored};
 ghost use Rattle.table_text.specs.Text.{space, lineFeed};
 ghost use Rattle.answer_text.specs.Line.{fieldsText, lineText};
 
-pub(crate) fn write_words(words: &[u8], output: &mut [u8], to: usize) -> usize
+pub fn write_words(words: &[u8], output: &mut [u8], to: usize) -> usize
     requires { ⌜ to + length (now words) ≤ length (now output) ⌝ }
     ensures { λ r. ⌜ Stored (now (words .entry)) (now (output .entry)) to (now (output .exit)) r ⌝ }
 {
@@ -16,7 +16,7 @@ pub(crate) fn write_words(words: &[u8], output: &mut [u8], to: usize) -> usize
 }
 
 // Writes a number after a space.
-pub(crate) fn write_field(n: u64, output: &mut [u8], to: usize) -> usize
+pub fn write_field(n: u64, output: &mut [u8], to: usize) -> usize
     requires { ⌜ to + 1 + length (digits n) ≤ length (now output) ⌝ }
     ensures { λ r. ⌜ Stored (space ∷ digits n) (now (output .entry)) to (now (output .exit)) r ⌝ }
 {
@@ -25,7 +25,7 @@ pub(crate) fn write_field(n: u64, output: &mut [u8], to: usize) -> usize
 }
 
 // 64 bits are at most 20 digits.
-pub(crate) fn write_fields(numbers: &[u64], output: &mut [u8], to: usize) -> usize
+pub fn write_fields(numbers: &[u64], output: &mut [u8], to: usize) -> usize
     requires { ⌜ to + 21 * length (now numbers) ≤ length (now output) ⌝ }
     ensures { λ r. ⌜ Stored (fieldsText (now (numbers .entry))) (now (output .entry)) to (now (output .exit)) r ⌝ }
     ensures { λ r. ⌜ r ≤ to + 21 * length (now (numbers .entry)) ⌝ }
@@ -39,7 +39,7 @@ pub(crate) fn write_fields(numbers: &[u64], output: &mut [u8], to: usize) -> usi
     end
 }
 
-pub(crate) fn end_line(output: &mut [u8], to: usize) -> usize
+pub fn end_line(output: &mut [u8], to: usize) -> usize
     requires { ⌜ to + 1 ≤ length (now output) ⌝ }
     ensures { λ r. ⌜ Stored (lineFeed ∷ []) (now (output .entry)) to (now (output .exit)) r ⌝ }
 {
@@ -47,7 +47,7 @@ pub(crate) fn end_line(output: &mut [u8], to: usize) -> usize
     to + 1
 }
 
-pub(crate) fn write_line(words: &[u8], numbers: &[u64], output: &mut [u8], to: usize) -> usize
+pub fn write_line(words: &[u8], numbers: &[u64], output: &mut [u8], to: usize) -> usize
     requires { ⌜ to + length (now words) + 21 * length (now numbers) + 1 ≤ length (now output) ⌝ }
     ensures { λ r. ⌜ Stored (lineText (now (words .entry)) (now (numbers .entry))) (now (output .entry)) to (now (output .exit)) r ⌝ }
     ensures { λ r. ⌜ r ≤ to + length (now (words .entry)) + 21 * length (now (numbers .entry)) + 1 ⌝ }

@@ -1,0 +1,2 @@
+pub mod Handover
+pub mod Sheet
