@@ -20,7 +20,7 @@ pub struct Position {
 }
 
 // A choice that compiles to no branch.
-fn pick_u8(yes: bool, a: u8, b: u8) -> u8
+pub fn pick_u8(yes: bool, a: u8, b: u8) -> u8
     ensures { λ r. ⌜ r ≡ cond yes a b ⌝ }
 {
     if yes { a } else { b }

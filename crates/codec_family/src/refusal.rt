@@ -50,17 +50,17 @@ fn is_base(base: u8) -> bool
         | (base == b'n')
 }
 
+// All bases are asked, with no branch: a strand is seldom bad.
 fn has_bad_base(bases: &[u8]) -> bool
     ensures { λ r. ⌜ r ≡ badBases (now (bases .entry)) ⌝ }
 {
+    let mut bad = false;
     let mut i = 0;
     while i < bases.len() {
-        if !is_base(bases[i]) {
-            return true;
-        }
+        bad = bad | !is_base(bases[i]);
         i += 1;
     }
-    false
+    bad
 }
 
 // The bases of an absent strand are not read.

@@ -12,12 +12,7 @@ use Rattle.lists.proofs.Map.{getD-map-within}
 use Rattle.lists.proofs.Numbers.{numbers-at, numbers-has}
 use Rattle.raw_bam.specs.Flags.{FIRST-SEGMENT, hasFlag}
 use Rattle.codec_pairing.specs.Pairing.{remains, isNamesake, namesakesFrom, namesakes, isPair, isFirst, isEntered, opensPair, earlierRecords, laterOf, r1Of, r2Of, sideR1, sideR2}
-use Rattle.codec_pairing.proofs.Sides.{pair-two, namesakes-at, opens-entered, later-namesake, earlier-half}
-
-one-of-two : (a b k x : ℕ) → k < 2 → getD (a ∷ b ∷ []) k 0 ≡ x → (a ≡ x) ⊎ (b ≡ x)
-one-of-two a b zero x h e = inl e
-one-of-two a b (suc zero) x h e = inr e
-one-of-two a b (suc (suc k)) x h e = absurd (omega arith)
+use Rattle.codec_pairing.proofs.Sides.{one-of-two, pair-two, namesakes-at, opens-entered, later-namesake, earlier-half}
 
 one-of-sides : (test : Bool) {a b x : ℕ} → (a ≡ x) ⊎ (b ≡ x) → (cond test a b ≡ x) ⊎ (cond test b a ≡ x)
 one-of-sides true (inl e) = inl e

@@ -1,16 +1,20 @@
 -- The remaining records of a name, read off a search for them.
-use mathlib.Core.Bool.{Bool, true, false, and-true, and-false, false≢true}
+use mathlib.Core.Bool.{Bool, true, false, not, and-true, false≢true}
 use mathlib.Core.List.{List, [], _∷_}
 use mathlib.Core.Logic.{⊎-elim}
-use mathlib.Core.Path.{_≡_, refl, _∙_}
-use Prim.Native.Nat.{ℕ, _+_, _-_, _≤_, _<_}
+use mathlib.Core.Path.{_≡_, refl, sym, _∙_}
+use Prim.Native.Nat.{ℕ, zero-le, _+_, _-_, _≤_, _<_}
 use native.Mathlib.Nat.{eq-zero-or-pos}
 use native.Mathlib.Omega.{arith}
-use borrow.Author.Tests.{eq-eqb, ne-eqb}
+use borrow.Author.Tests.{eq-eqb, eqb-true, not-true}
+use lib.Dec.{eqb}
 use lib.ListN.{length, getD}
-use Rattle.lists.proofs.Numbers.{numbers-yes, numbers-end}
-use Rattle.codec_pairing.specs.Pairing.{isNamesake, namesakesFrom, namesakes, isPair, isFirst, isEntered, opensPair, laterOf}
-use Rattle.codec_pairing.specs.Search.{Reached}
+use Rattle.lists.proofs.Cases.{and-both, fails-of-never}
+use Rattle.lists.proofs.Numbers.{numbers-yes, numbers-no, numbers-end, numbers-has}
+use Rattle.raw_bam.specs.Flags.{PAIRED, hasFlag}
+use Rattle.codec_pairing.specs.Pairing.{notPrimary, remains, isNamesake, namesakesFrom, namesakes, isPair, isFirst, isEntered, fateOf, opensPair, laterOf}
+use Rattle.codec_pairing.specs.Search.{Reached, Preceded}
+use Rattle.codec_pairing.proofs.Sides.{one-of-two, opens-namesakes, later-after}
 
 module _ {flags names : List ℕ} {name from r : ℕ} (reached : Reached flags names name from r) where
   -- the search has found the next one
@@ -23,13 +27,48 @@ module _ {flags names : List ℕ} {name from r : ℕ} (reached : Reached flags n
   unfolding namesakesFrom
   none-found h = reached .none-between ∙ numbers-end (isNamesake flags names name) (length flags) r h
 
+-- the record before record k is not of the name
+pub none-passed : (flags names : List ℕ) (name k : ℕ) → 0 < k → k ≤ length flags → isNamesake flags names name (k - 1) ≡ false
+    → namesakesFrom flags names name (k - 1) ≡ namesakesFrom flags names name k
+unfolding namesakesFrom
+none-passed flags names name k some h fails =
+    let next : k - 1 + 1 ≡ k = omega arith in
+    rw next at (numbers-no (isNamesake flags names name) (length flags) (k - 1) (omega arith) fails)
+
 module _ (flags names : List ℕ) (verdicts : List Bool) (i : ℕ) where
-  -- another record of the name stands first, or none
-  pub opens-not : {r : ℕ} → Reached flags names (getD names i 0) 0 r → (r ≡ i → ⊥) → opensPair flags names verdicts i ≡ false
-  unfolding opensPair isFirst
-  opens-not {r} reached differ =
-      ⊎-elim (λ none. rw (none-found reached (omega arith)) (and-false (isEntered flags names verdicts i))) (λ more. rw (next-found reached (omega arith), ne-eqb r i differ) (and-false (isEntered flags names verdicts i)))
-      (eq-zero-or-pos (length flags - r))
+  -- a record that does not remain opens nothing
+  pub opens-not-aside : remains (getD flags i 0) ≡ false → opensPair flags names verdicts i ≡ false
+  unfolding opensPair isEntered
+  opens-not-aside aside = rw aside
+
+  -- nor does one that has a namesake before it
+  pub opens-not : {r : ℕ} → Preceded flags names i r → (r ≡ i → ⊥) → i < length flags → opensPair flags names verdicts i ≡ false
+  unfolding namesakesFrom
+  opens-not {r} preceded differ h =
+      fails-of-never _ (λ opens.
+      let two = opens-namesakes flags names verdicts i opens in
+      let bound = preceded .within in
+      let before : r < i = omega arith in
+      let has = numbers-has (isNamesake flags names (getD names i 0)) 0 (length flags - 0) r zero-le (omega arith) (preceded .found before) in
+      let at : getD (i ∷ laterOf flags names i ∷ []) (has .0) 0 ≡ r = rw two at (has .2) in
+      let within : has .0 < 2 = rw two at (has .1) in
+      let after = later-after flags names verdicts i opens in
+      ⊎-elim (λ e. differ (sym e)) (λ e. omega arith) (one-of-two i (laterOf flags names i) (has .0) r within at))
+
+  -- one that remains and has none before it is the first of its name
+  pub first-of : {r : ℕ} → Preceded flags names i r → r ≡ i → i < length flags → remains (getD flags i 0) ≡ true → Reached flags names (getD names i 0) 0 i
+  unfolding isNamesake
+  first-of preceded is h stays = record { within = omega arith; none-between = preceded .none-before is; found = λ _. rw (eq-eqb (getD names i 0) (getD names i 0) refl) stays }
+
+  -- the records of a name that remain have one fate
+  pub same-fate : (k : ℕ) → isNamesake flags names (getD names i 0) k ≡ true → remains (getD flags i 0) ≡ true → fateOf flags names verdicts k ≡ fateOf flags names verdicts i
+  unfolding isNamesake fateOf isEntered
+  same-fate k namesake stays =
+      let both = and-both (eqb (getD names k 0) (getD names i 0)) (remains (getD flags k 0)) namesake in
+      let name = eqb-true (getD names k 0) (getD names i 0) (both .0) in
+      let own = and-both (hasFlag (getD flags i 0) PAIRED) (not (notPrimary (getD flags i 0))) stays in
+      let other = and-both (hasFlag (getD flags k 0) PAIRED) (not (notPrimary (getD flags k 0))) (both .1) in
+      rw (name, own .0, other .0, not-true (notPrimary (getD flags i 0)) (own .1), not-true (notPrimary (getD flags k 0)) (other .1))
 
   -- record i stands first
   pub opens-where-pair : Reached flags names (getD names i 0) 0 i → i < length flags → opensPair flags names verdicts i ≡ isPair verdicts (namesakes flags names i)

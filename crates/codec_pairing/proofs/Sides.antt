@@ -1,8 +1,9 @@
 -- Laws of the two sides.
 use mathlib.Core.Bool.{Bool, true, false, cond, not, false≢true}
 use mathlib.Core.List.{List, [], _∷_, _++_}
+use mathlib.Core.Logic.{_⊎_, inl, inr}
 use mathlib.Core.Path.{_≡_, refl, sym, _∙_, ap}
-use Prim.Native.Nat.{ℕ, suc, _+_, _*_, _-_, _≤_, _<_}
+use Prim.Native.Nat.{ℕ, zero, suc, _+_, _*_, _-_, _≤_, _<_}
 use native.Mathlib.Nat.{zero-add}
 use native.Mathlib.Omega.{arith}
 use borrow.Author.Tests.{eqb-true}
@@ -13,6 +14,11 @@ use Rattle.lists.proofs.Cases.{and-both, fails-of-never}
 use Rattle.lists.proofs.Count.{count-into, count-both}
 use Rattle.lists.proofs.Numbers.{numbers-at, numbers-after, length-numbers}
 use Rattle.codec_pairing.specs.Pairing.{isNamesake, namesakesFrom, namesakes, remains, isPair, isFirst, isEntered, opensPair, earlierRecords, laterOf}
+
+pub one-of-two : (a b k x : ℕ) → k < 2 → getD (a ∷ b ∷ []) k 0 ≡ x → (a ≡ x) ⊎ (b ≡ x)
+one-of-two a b zero x h e = inl e
+one-of-two a b (suc zero) x h e = inr e
+one-of-two a b (suc (suc k)) x h e = absurd (omega arith)
 
 -- a pair is two records
 pub pair-two : (verdicts : List Bool) (records : List ℕ) → isPair verdicts records ≡ true → records ≡ getD records 0 0 ∷ getD records 1 0 ∷ []

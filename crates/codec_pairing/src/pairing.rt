@@ -8,12 +8,12 @@ use raw_bam::flags::is_secondary;
 use raw_bam::flags::is_supplementary;
 ghost use mathlib.Core.Bool.{cond};
 ghost use mathlib.Core.Path.{_≡_};
-ghost use Prim.Native.Nat.{_*_, _≤_, _<_};
-ghost use lib.ListN.{length};
+ghost use Prim.Native.Nat.{ℕ, _*_, _≤_, _<_};
+ghost use lib.ListN.{length, getD};
 ghost use Rattle.lists.specs.Tabulate.{tabulate};
 ghost use Rattle.lists.specs.Written.{written};
-ghost use Rattle.codec_pairing.specs.Pairing.{Columns, notPrimary, remains, namesakesFrom, isPair, fateOf, opensPair, laterOf, sideR1, sideR2};
-ghost use Rattle.codec_pairing.specs.Search.{Reached};
+ghost use Rattle.codec_pairing.specs.Pairing.{Columns, notPrimary, remains, namesakes, isPair, fateOf, opensPair, laterOf, sideR1, sideR2};
+ghost use Rattle.codec_pairing.specs.Search.{Reached, Preceded};
 
 fn is_not_primary(flags: u16) -> bool
     ensures { λ r. ⌜ r ≡ notPrimary flags ⌝ }
@@ -51,17 +51,33 @@ fn next_namesake(flags: &[u16], names: &[u32], name: u32, from: usize) -> usize
     i
 }
 
-// Exactly two records of a name remain, and the earlier one's verdict is yes. The later one's is never read.
-fn is_pair(flags: &[u16], names: &[u32], verdicts: &[bool], name: u32) -> bool
+// The last record of record i's name that remains before it; i itself where there is none.
+fn previous_namesake(flags: &[u16], names: &[u32], i: usize) -> usize
+    requires { ⌜ (length (now names) ≡ length (now flags)) × (i < length (now flags)) ⌝ }
+    ensures { λ r. ⌜ Preceded (now (flags .entry)) (now (names .entry)) i r ⌝ }
+{
+    let name = names[i];
+    let mut k = i;
+    while 0 < k {
+        k -= 1;
+        if names[k] == name {
+            if is_remaining(flags[k]) {
+                return k;
+            }
+        }
+    }
+    i
+}
+
+// Record i is the first of its name. Exactly two of them remain, and the earlier one's verdict is yes. The later one's is never read.
+fn is_pair(flags: &[u16], names: &[u32], verdicts: &[bool], i: usize) -> bool
     requires { ⌜ Columns (now flags) (now names) (now verdicts) ⌝ }
-    ensures { λ r. ⌜ r ≡ isPair (now (verdicts .entry)) (namesakesFrom (now (flags .entry)) (now (names .entry)) name 0) ⌝ }
+    requires { ⌜ (i < length (now flags)) × Reached (now flags) (now names) (getD (now names) i 0) 0 i ⌝ }
+    ensures { λ r. ⌜ r ≡ isPair (now (verdicts .entry)) (namesakes (now (flags .entry)) (now (names .entry)) i) ⌝ }
 {
     let n = flags.len();
-    let earlier = next_namesake(flags, names, name, 0);
-    if n <= earlier {
-        return false;
-    }
-    let later = next_namesake(flags, names, name, earlier + 1);
+    let name = names[i];
+    let later = next_namesake(flags, names, name, i + 1);
     if n <= later {
         return false;
     }
@@ -69,13 +85,14 @@ fn is_pair(flags: &[u16], names: &[u32], verdicts: &[bool], name: u32) -> bool
     if third < n {
         return false;
     }
-    verdicts[earlier]
+    verdicts[i]
 }
 
-// What steps 1 and 2 make of a record: a record that is unpaired is rejected even where it is secondary.
-fn fate_of(flags: &[u16], names: &[u32], verdicts: &[bool], i: usize) -> u8
+// What steps 1 and 2 make of a record: a record that is unpaired is rejected even where it is secondary. All of a name have one fate.
+fn fate_of(flags: &[u16], names: &[u32], verdicts: &[bool], fates: &[u8], i: usize) -> u8
     requires { ⌜ Columns (now flags) (now names) (now verdicts) ⌝ }
-    requires { ⌜ i < length (now flags) ⌝ }
+    requires { ⌜ (i < length (now flags)) × (i ≤ length (now fates)) ⌝ }
+    requires { ⌜ ((k : ℕ) → k < i → getD (now fates) k 0 ≡ fateOf (now flags) (now names) (now verdicts) k) ⌝ }
     ensures { λ r. ⌜ r ≡ fateOf (now (flags .entry)) (now (names .entry)) (now (verdicts .entry)) i ⌝ }
 {
     let own = flags[i];
@@ -85,7 +102,11 @@ fn fate_of(flags: &[u16], names: &[u32], verdicts: &[bool], i: usize) -> u8
     if is_not_primary(own) {
         return PASSED_OVER;
     }
-    if is_pair(flags, names, verdicts, names[i]) {
+    let earlier = previous_namesake(flags, names, i);
+    if earlier < i {
+        return fates[earlier];
+    }
+    if is_pair(flags, names, verdicts, i) {
         UNDECIDED
     } else {
         RejectionReason::NotPrimaryFrPair.number()
@@ -100,7 +121,7 @@ pub fn write_fates(flags: &[u16], names: &[u32], verdicts: &[bool], fates: &mut 
 {
     let mut i = 0;
     while i < flags.len() {
-        let fate = fate_of(flags, names, verdicts, i);
+        let fate = fate_of(flags, names, verdicts, fates, i);
         fates[i] = fate;
         i += 1;
     }
@@ -113,12 +134,14 @@ fn later_of(flags: &[u16], names: &[u32], verdicts: &[bool], i: usize) -> usize
     ensures { λ r. ⌜ r ≡ cond (opensPair (now (flags .entry)) (now (names .entry)) (now (verdicts .entry)) i) (laterOf (now (flags .entry)) (now (names .entry)) i) (length (now (flags .entry))) ⌝ }
 {
     let n = flags.len();
-    let name = names[i];
-    if next_namesake(flags, names, name, 0) != i {
+    if !is_remaining(flags[i]) {
         return n;
     }
-    if is_pair(flags, names, verdicts, name) {
-        next_namesake(flags, names, name, i + 1)
+    if previous_namesake(flags, names, i) != i {
+        return n;
+    }
+    if is_pair(flags, names, verdicts, i) {
+        next_namesake(flags, names, names[i], i + 1)
     } else {
         n
     }

@@ -25,7 +25,7 @@ fn drop_others(side: &mut [usize], stays: &[bool], fate: u8, fates: &mut [u8]) -
     keep_staying(side, stays)
 }
 
-// Step 4 of the first n records of a column.
+// Step 4 of the first n records of a column. Fewer than two all stay.
 pub fn keep_group(
     ops: &[u32],
     clipped: &[u32],
@@ -45,6 +45,9 @@ pub fn keep_group(
     ensures { λ _. ⌜ length (now (side .exit)) ≡ length (now (side .entry)) ⌝ }
     ensures { λ _. ⌜ now (fates .exit) ≡ givenFate (numberOf MinorityAlignment) (dropped (take n (now (side .entry))) (inGroup (now (ops .entry)) (now (clipped .entry)) (now (starts .entry)) (now (counts .entry)) (now (flags .entry)) (take n (now (side .entry))))) (now (fates .entry)) ⌝ }
 {
+    if n < 2 {
+        return n;
+    }
     let mut stays = [false; 256];
     filter_to_most_common_alignment_raw(
         ops,

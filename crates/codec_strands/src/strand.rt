@@ -1,24 +1,22 @@
 // Strands turned round, and padded to the duplex's length.
 use caller::phred::NO_CALL_BASE_LOWER;
+use codec_duplex::position::pick_u8;
 ghost use mathlib.Core.Bool.{cond};
-ghost use mathlib.Core.List.{List};
 ghost use mathlib.Core.Path.{_≡_};
-ghost use Prim.Native.Nat.{ℕ, _-_, _≤_};
-ghost use lib.ListN.{length, getD};
+ghost use Prim.Native.Nat.{_+_, _-_, _≤_, _<_};
+ghost use lib.ListN.{length, replicate};
 ghost use Rattle.lists.specs.Written.{written};
 ghost use Rattle.codec_duplex.specs.Columns.{strand};
 ghost use Rattle.codec_strands.specs.Strands.{complement, turned, turnedBases, oriented, padded, paddedStrand, writtenStrand, Within, Room};
 
+// Chosen with no branch, since bases are hard to foresee.
 pub fn complement_base(base: u8) -> u8
     ensures { λ r. ⌜ r ≡ complement base ⌝ }
 {
-    match base {
-        b'A' => b'T',
-        b'T' => b'A',
-        b'C' => b'G',
-        b'G' => b'C',
-        _ => base,
-    }
+    let of_g = pick_u8(base == b'G', b'C', base);
+    let of_c = pick_u8(base == b'C', b'G', of_g);
+    let of_t = pick_u8(base == b'T', b'A', of_c);
+    pick_u8(base == b'A', b'T', of_t)
 }
 
 fn base_turned(base: u8, reversed: bool) -> u8
@@ -34,43 +32,74 @@ fn base_turned(base: u8, reversed: bool) -> u8
 fn padding_before(count: usize, n: usize, left: bool) -> usize
     requires { ⌜ count ≤ n ⌝ }
     ensures { λ r. ⌜ r ≡ cond left (n - count) 0 ⌝ }
+    ensures { λ r. ⌜ r + count ≤ n ⌝ }
 {
     if left { n - count } else { 0 }
 }
 
-// Which of a column's count places stands at place i of the padded column; count itself for padding.
-fn source_place(count: usize, reversed: bool, left: bool, n: usize, i: usize) -> usize
-    requires { ⌜ count ≤ n ⌝ }
-    ensures { λ r. ⌜ ((xs : List ℕ) (pad : ℕ) → length xs ≡ count → getD (padded left pad n (turned reversed xs)) i pad ≡ getD xs r pad) ⌝ }
+// Which of a column's count places stands at place i once it is turned.
+fn turned_place(count: usize, reversed: bool, i: usize) -> usize
+    requires { ⌜ i < count ⌝ }
+    ensures { λ r. ⌜ r ≡ cond reversed (count - 1 - i) i ⌝ }
+    ensures { λ r. ⌜ r < count ⌝ }
 {
-    let before = padding_before(count, n, left);
-    if i < before {
-        return count;
-    }
-    let place = i - before;
-    if place >= count {
-        return count;
-    }
-    if reversed { count - 1 - place } else { place }
+    if reversed { count - 1 - i } else { i }
 }
 
-fn byte_or(column: &[u8], place: usize, pad: u8) -> u8
-    ensures { λ r. ⌜ r ≡ getD (now (column .entry)) place pad ⌝ }
+fn fill_bytes(value: u8, out: &mut [u8])
+    ensures { λ _. ⌜ now (out .exit) ≡ replicate (length (now (out .entry))) value ⌝ }
 {
-    if place < column.len() {
-        column[place]
-    } else {
-        pad
+    let mut i = 0;
+    while i < out.len() {
+        out[i] = value;
+        i += 1;
     }
 }
 
-fn short_or(column: &[u16], place: usize, pad: u16) -> u16
-    ensures { λ r. ⌜ r ≡ getD (now (column .entry)) place pad ⌝ }
+fn fill_shorts(value: u16, out: &mut [u16])
+    ensures { λ _. ⌜ now (out .exit) ≡ replicate (length (now (out .entry))) value ⌝ }
 {
-    if place < column.len() {
-        column[place]
-    } else {
-        pad
+    let mut i = 0;
+    while i < out.len() {
+        out[i] = value;
+        i += 1;
+    }
+}
+
+fn turn_bases(bases: &[u8], reversed: bool, out: &mut [u8])
+    requires { ⌜ length (now bases) ≤ length (now out) ⌝ }
+    ensures { λ _. ⌜ now (out .exit) ≡ written (turnedBases reversed (now (bases .entry))) (now (out .entry)) ⌝ }
+{
+    let count = bases.len();
+    let mut i = 0;
+    while i < count {
+        let base = bases[turned_place(count, reversed, i)];
+        out[i] = base_turned(base, reversed);
+        i += 1;
+    }
+}
+
+fn turn_bytes(column: &[u8], reversed: bool, out: &mut [u8])
+    requires { ⌜ length (now column) ≤ length (now out) ⌝ }
+    ensures { λ _. ⌜ now (out .exit) ≡ written (turned reversed (now (column .entry))) (now (out .entry)) ⌝ }
+{
+    let count = column.len();
+    let mut i = 0;
+    while i < count {
+        out[i] = column[turned_place(count, reversed, i)];
+        i += 1;
+    }
+}
+
+fn turn_shorts(column: &[u16], reversed: bool, out: &mut [u16])
+    requires { ⌜ length (now column) ≤ length (now out) ⌝ }
+    ensures { λ _. ⌜ now (out .exit) ≡ written (turned reversed (now (column .entry))) (now (out .entry)) ⌝ }
+{
+    let count = column.len();
+    let mut i = 0;
+    while i < count {
+        out[i] = column[turned_place(count, reversed, i)];
+        i += 1;
     }
 }
 
@@ -79,13 +108,9 @@ pub fn write_bases(bases: &[u8], reversed: bool, left: bool, n: usize, out: &mut
     requires { ⌜ (length (now bases) ≤ n) × (n ≤ length (now out)) ⌝ }
     ensures { λ _. ⌜ now (out .exit) ≡ written (padded left 110 n (turnedBases reversed (now (bases .entry)))) (now (out .entry)) ⌝ }
 {
-    let mut i = 0;
-    while i < n {
-        let place = source_place(bases.len(), reversed, left, n, i);
-        let base = byte_or(bases, place, NO_CALL_BASE_LOWER);
-        out[i] = base_turned(base, reversed);
-        i += 1;
-    }
+    let before = padding_before(bases.len(), n, left);
+    fill_bytes(NO_CALL_BASE_LOWER, &mut out[..n]);
+    turn_bases(bases, reversed, &mut out[before..]);
 }
 
 // Writes qualities, reversed or as they are, padded to n places.
@@ -93,12 +118,9 @@ pub fn write_quals(quals: &[u8], reversed: bool, left: bool, n: usize, out: &mut
     requires { ⌜ (length (now quals) ≤ n) × (n ≤ length (now out)) ⌝ }
     ensures { λ _. ⌜ now (out .exit) ≡ written (padded left 0 n (turned reversed (now (quals .entry)))) (now (out .entry)) ⌝ }
 {
-    let mut i = 0;
-    while i < n {
-        let place = source_place(quals.len(), reversed, left, n, i);
-        out[i] = byte_or(quals, place, 0);
-        i += 1;
-    }
+    let before = padding_before(quals.len(), n, left);
+    fill_bytes(0, &mut out[..n]);
+    turn_bytes(quals, reversed, &mut out[before..]);
 }
 
 // Writes depths or errors, reversed or as they are, padded to n places.
@@ -106,12 +128,9 @@ pub fn write_counts(counts: &[u16], reversed: bool, left: bool, n: usize, out: &
     requires { ⌜ (length (now counts) ≤ n) × (n ≤ length (now out)) ⌝ }
     ensures { λ _. ⌜ now (out .exit) ≡ written (padded left 0 n (turned reversed (now (counts .entry)))) (now (out .entry)) ⌝ }
 {
-    let mut i = 0;
-    while i < n {
-        let place = source_place(counts.len(), reversed, left, n, i);
-        out[i] = short_or(counts, place, 0);
-        i += 1;
-    }
+    let before = padding_before(counts.len(), n, left);
+    fill_shorts(0, &mut out[..n]);
+    turn_shorts(counts, reversed, &mut out[before..]);
 }
 
 // Writes a strand, reverse complemented or as it is, padded to n places.

@@ -36,9 +36,10 @@ impl FamilyCalls {
         Self(caller(String::new(), String::new(), options, true))
     }
 
-    /// Strands for the calls to come, R1's and R2's in turn.
-    pub fn hand_over(&mut self, strands: impl IntoIterator<Item = Columns>) {
-        self.0.ss_caller.strands.extend(strands.into_iter().map(Some));
+    /// Strands for the calls to come, R1's and R2's in turn, and nothing left from the calls before.
+    pub fn hand_over(&mut self, strands: impl IntoIterator<Item = Option<Columns>>) {
+        self.0.ss_caller.strands.clear();
+        self.0.ss_caller.strands.extend(strands);
     }
 
     /// How many duplexes the call makes.

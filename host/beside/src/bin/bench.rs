@@ -1,5 +1,6 @@
 //! The time of one call, the exported one and the original's in turn on the same input: combining at 2,048 positions, then
-//! whole families; last the time of selection alone and of the ledger's rates, by themselves.
+//! whole families, then selection alone, and last the ledger's rates by themselves. The original has no call for selection: its family
+//! call stops after step 7 without strands.
 
 use beside::original_call;
 use beside::rng::Rng;
@@ -37,10 +38,10 @@ fn main() {
     forget_ranks();
     println!("median of {FAMILY_ROUNDS} rounds over {PAIRS} families, ns per call");
     println!("{:<36}{:>10}{:>10}{:>8}", "family call, records", "exported", "original", "ratio");
-    let sizes = [2, 8, 32, 128, MAX_RECORDS];
+    let sizes = [2, 4, 8, 32, 128, MAX_RECORDS];
     let families = sizes.map(|records| (0..PAIRS).map(|_| family_of(&mut rng, records)).collect());
     families.iter().for_each(|families: &Vec<Family>| report_family(families));
-    println!("{:<36}{:>10}", "selection alone, records", "exported");
+    println!("{:<36}{:>10}{:>10}{:>8}", "selection alone, records", "exported", "original", "ratio");
     families.iter().for_each(|families| report_selection(families));
     report_rates(&mut rng);
 }
@@ -122,28 +123,37 @@ fn report_family(families: &[Family]) {
         answer.ending
     };
     assert!(families.iter().all(|family| ask(family) == Ending::Called { length: 200 }));
-    let mut calls = FamilyCalls::new(CodecConsensusOptions::default());
-    let (mut exported, mut original) = (Vec::new(), Vec::new());
-    for _ in 0..FAMILY_ROUNDS {
-        exported.push(per_call(families, |family| _ = black_box(ask(family))));
-        calls.hand_over(
-            families.iter().flat_map(|family| &family.strands).map(original_call::columns),
-        );
-        original.push(per_call(families, |family| {
-            assert!(matches!(black_box(calls.call(&family.raw)), Ok(1)));
-        }));
-    }
-    let (exported, original) = (median(exported), median(original));
-    let records = families[0].records.len();
-    println!("{records:<36}{exported:>10.0}{original:>10.0}{:>8.2}", exported / original);
+    let strands = families.iter().flat_map(|family| &family.strands);
+    let strands: Vec<_> = strands.map(|columns| Some(original_call::columns(columns))).collect();
+    beside(families, |family| _ = black_box(ask(family)), &strands, 1);
 }
 
 fn report_selection(families: &[Family]) {
     let options = Options::default();
     let ask = |family: &Family| select(&family.records, &family.ops, &options);
     assert!(families.iter().all(|family| matches!(ask(family), Selection::Kept { .. })));
-    let times = (0..FAMILY_ROUNDS).map(|_| per_call(families, |family| _ = black_box(ask(family))));
-    println!("{:<36}{:>10.0}", families[0].records.len(), median(times.collect()));
+    beside(families, |family| _ = black_box(ask(family)), &vec![None; 2 * families.len()], 0);
+}
+
+/// The exported call and the original's in turn; the latter makes so many duplexes of each family.
+fn beside(
+    families: &[Family],
+    mut ask: impl FnMut(&Family),
+    strands: &[Option<trace::Columns>],
+    duplexes: usize,
+) {
+    let mut calls = FamilyCalls::new(CodecConsensusOptions::default());
+    let (mut exported, mut original) = (Vec::new(), Vec::new());
+    for _ in 0..FAMILY_ROUNDS {
+        exported.push(per_call(families, &mut ask));
+        calls.hand_over(strands.iter().cloned());
+        original.push(per_call(families, |family| {
+            assert!(black_box(calls.call(&family.raw)).is_ok_and(|made| made == duplexes));
+        }));
+    }
+    let (exported, original) = (median(exported), median(original));
+    let records = families[0].records.len();
+    println!("{records:<36}{exported:>10.0}{original:>10.0}{:>8.2}", exported / original);
 }
 
 /// Ledgers of a whole run: up to 2^41 duplex bases, of which up to one in 64 differs.

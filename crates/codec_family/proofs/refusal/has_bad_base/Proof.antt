@@ -1,22 +1,31 @@
--- All bases passed are bases, so the ones left decide.
-use mathlib.Core.Bool.{not}
-use mathlib.Core.Path.{_≡_, sym, _∙_, ap}
-use Prim.Native.Nat.{_-_, _≤_}
+-- A bad one is among those passed, or among those left.
+use mathlib.Core.Bool.{Bool, true, false, not, _&&_, _||_}
+use mathlib.Core.Path.{_≡_, refl, sym, _∙_}
+use Prim.Native.Nat.{suc, _-_, _≤_}
+use native.Mathlib.Numerals.{add-one}
 use native.Mathlib.Omega.{arith}
 use borrow.Author.Needs.{needs}
-use borrow.Author.Tests.{not-true, not-false}
-use lib.ListN.{length, drop}
+use lib.ListN.{length, getD, drop, drop-of-length-le}
+use lib.Seq.{drop-cons}
 use Rattle.lists.specs.Every.{every}
 use Rattle.codec_family.specs.Refusals.{isBase, badBases}
-use Rattle.lists.proofs.Every.{every-fails, every-next, every-passed}
 use Rattle.codec_family.proofs.refusal.has_bad_base.Statement.{statement}
 use Rattle.codec_family.proofs.refusal.has_bad_base.Tie as tie
 
+one-more : (bad base rest : Bool) → bad || not (base && rest) ≡ (bad || not base) || not rest
+one-more true base rest = refl
+one-more false true rest = refl
+one-more false false rest = refl
+
+none-left : (bad : Bool) → bad || false ≡ bad
+none-left true = refl
+none-left false = refl
+
 abbrev Inv-loop : tie.InvT-loop
-Inv-loop bases i₀ i = (i ≤ length bases) × (every isBase bases ≡ every isBase (drop i bases))
+Inv-loop bases bad₀ i₀ bad i = (i ≤ length bases) × (not (every isBase bases) ≡ bad || not (every isBase (drop i bases)))
 
 abbrev μ-loop : tie.MeasureT-loop
-μ-loop bases i₀ i = length bases - i
+μ-loop bases bad₀ i₀ bad i = length bases - i
 
 loop-holds : tie.Need-loop-holds Inv-loop μ-loop
 loop-holds c = search needs
@@ -27,12 +36,6 @@ shared-slice-read-is-base c = search needs
 is-base-requires : tie.Need-is-base-requires Inv-loop μ-loop
 is-base-requires c κs = search needs
 
-returns : tie.Need-returns Inv-loop μ-loop
-unfolding badBases
-returns c =
-    let at = c .before .before .before .before in
-    sym (ap not (every-fails isBase (at .before .before .args .bases .now) (at .loop .i) 0 (at .loop .inv .1) (omega arith) (sym (c .before .is-base .ensures) ∙ not-true _ (c .if1 .taken))))
-
 add-i : tie.Need-add-i Inv-loop μ-loop
 add-i c = search needs
 
@@ -41,12 +44,15 @@ loop-less c = search needs
 
 loop-again : tie.Need-loop-again Inv-loop μ-loop
 loop-again c =
-    let at = c .before .before .before .before in
-    (omega arith, every-next isBase (at .before .before .args .bases .now) (at .loop .i) 0 (at .loop .inv .1) (omega arith) (sym (c .before .is-base .ensures) ∙ not-false _ (c .if1 .left)))
+    let at = c .before .before .before in
+    let bases = at .before .before .args .bases .now in
+    (omega arith, at .loop .inv .1 ∙ rw (add-one, c .is-base .ensures, drop-cons bases (at .loop .i) 0 (omega arith)) (one-more (at .loop .bad) (isBase (getD bases (at .loop .i) 0)) (every isBase (drop (suc (at .loop .i)) bases))))
 
-returns-2 : tie.Need-returns-2 Inv-loop μ-loop
+returns : tie.Need-returns Inv-loop μ-loop
 unfolding badBases
-returns-2 c = sym (ap not (every-passed isBase (c .before .before .before .args .bases .now) (c .before .loop .i) 0 (c .before .loop .inv .1) (omega arith)))
+returns c =
+    let at = c .before in
+    sym (at .loop .inv .1 ∙ rw (drop-of-length-le (at .before .before .args .bases .now) {i = at .loop .i} (omega arith)) (none-left (at .loop .bad)))
 
 pub has-bad-base-spec : {M : Type 1} → statement M
 has-bad-base-spec =
@@ -57,8 +63,7 @@ has-bad-base-spec =
     loop-holds
     shared-slice-read-is-base
     is-base-requires
-    returns
     add-i
     loop-less
     loop-again
-    returns-2)
+    returns)

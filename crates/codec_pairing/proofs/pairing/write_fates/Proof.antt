@@ -1,12 +1,12 @@
 -- The fates of the first i records are written.
 use mathlib.Core.Path.{_≡_, _∙_, ap}
-use Prim.Native.Nat.{_≤_, _-_}
+use Prim.Native.Nat.{ℕ, _≤_, _<_, _-_}
 use native.Mathlib.Omega.{arith}
 use borrow.Author.Needs.{needs}
-use lib.ListN.{length}
+use lib.ListN.{length, getD, List·getD-append}
 use Rattle.lists.specs.Tabulate.{tabulate}
 use Rattle.lists.specs.Written.{written}
-use Rattle.lists.proofs.Tabulate.{length-tabulate, tabulate-more}
+use Rattle.lists.proofs.Tabulate.{length-tabulate, tabulate-more, getD-tabulate}
 use Rattle.lists.proofs.Written.{length-written}
 use Rattle.codec_pairing.specs.Pairing.{fateOf}
 use Rattle.codec_pairing.proofs.pairing.write_fates.Statement.{statement}
@@ -31,10 +31,20 @@ unfolding tabulate
 loop-holds c = search needs
 
 fate-of-requires : tie.Need-fate-of-requires Inv-loop μ-loop
-fate-of-requires c κs = search needs
+fate-of-requires c κs =
+    let at = c .before .before in
+    let start = at .before .before .before .before .before in
+    let fate = fateOf (start .args .flags .now) (start .args .names .now) (start .args .verdicts .now) in (
+      start .pre .0,
+      (
+        (omega arith, omega (arith, kept at, start .pre .1)),
+        λ k h.
+            rw (at .loop .inv .1) (List·getD-append (tabulate fate (at .loop .i)) _ 0 k (omega (arith, length-tabulate fate (at .loop .i))) ∙ getD-tabulate fate (at .loop .i) k 0 h),
+      ),
+    )
 
 slice-write-fates : tie.Need-slice-write-fates Inv-loop μ-loop
-slice-write-fates c = omega (arith, kept (c .before .before), c .before .before .before .before .before .before .before .pre .1)
+slice-write-fates c = omega (arith, kept (c .before .before .before), c .before .before .before .before .before .before .before .before .pre .1)
 
 add-i : tie.Need-add-i Inv-loop μ-loop
 add-i c = search needs
@@ -44,7 +54,7 @@ loop-less c = search needs
 
 loop-again : tie.Need-loop-again Inv-loop μ-loop
 loop-again c =
-    let at = c .before .before in
+    let at = c .before .before .before in
     let start = at .before .before .before .before .before in
     let fate = fateOf (start .args .flags .now) (start .args .names .now) (start .args .verdicts .now) in
     (omega arith, rw (c .fate-of .ensures, at .loop .inv .1) (tabulate-more fate (start .args .fates .now) (at .loop .i) (omega (arith, start .pre .1))))

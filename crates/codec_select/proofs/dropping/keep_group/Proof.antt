@@ -1,33 +1,43 @@
 -- The flags of the side are the first places of a local column.
-use mathlib.Core.Path.{_≡_, sym, _∙_, ap}
+use mathlib.Core.Path.{_≡_, refl, sym, _∙_, ap}
 use native.Mathlib.Omega.{arith}
-use Prim.Native.Nat.{_≤_}
+use Prim.Native.Nat.{_≤_, _<_}
 use lib.ListN.{length, take, length-take}
 use Rattle.lists.proofs.Written.{take-count}
 use Rattle.codec_select.specs.Side.{inGroup}
-use Rattle.codec_select.proofs.Remaining.{length-inGroup}
+use Rattle.codec_select.proofs.Remaining.{length-inGroup, few-kept, few-dropped}
+use Rattle.codec_select.proofs.Keeping.{givenFate-none}
 use borrow.Author.Needs.{needs}
 use Rattle.codec_select.proofs.dropping.keep_group.Statement.{statement}
 use Rattle.codec_select.proofs.dropping.keep_group.Tie as tie
 
 -- as many as the part has
-part-length : (c : tie.After-filter-to-most-common-alignment-raw) → let start = c .before .before .before .before .before .before .before .before .before .before in start .args .n ≡ length (take (start .args .n) (start .args .side .now))
-part-length c = let start = c .before .before .before .before .before .before .before .before .before .before in simp length-take (omega (arith, start .pre .1 .1 .1 .1 .0))
+part-length : (c : tie.After-filter-to-most-common-alignment-raw) → let start = c .before .before .before .before .before .before .before .before .before .before .before in start .args .n ≡ length (take (start .args .n) (start .args .side .now))
+part-length c = let start = c .before .before .before .before .before .before .before .before .before .before .before in simp length-take (omega (arith, start .pre .1 .1 .1 .1 .0))
 
-own-stays : (c : tie.After-filter-to-most-common-alignment-raw) → let start = c .before .before .before .before .before .before .before .before .before .before in take (start .args .n) (c .filter-to-most-common-alignment-raw .last .1 .1 .1 .1 .1 .1 .0) ≡ inGroup (start .args .ops .now) (start .args .clipped .now) (start .args .starts .now) (start .args .counts .now) (start .args .flags .now) (take (start .args .n) (start .args .side .now))
+own-stays : (c : tie.After-filter-to-most-common-alignment-raw) → let start = c .before .before .before .before .before .before .before .before .before .before .before in take (start .args .n) (c .filter-to-most-common-alignment-raw .last .1 .1 .1 .1 .1 .1 .0) ≡ inGroup (start .args .ops .now) (start .args .clipped .now) (start .args .starts .now) (start .args .counts .now) (start .args .flags .now) (take (start .args .n) (start .args .side .now))
 own-stays c =
-    let start = c .before .before .before .before .before .before .before .before .before .before in
+    let start = c .before .before .before .before .before .before .before .before .before .before .before in
     let part = take (start .args .n) (start .args .side .now) in
     take-count (inGroup (start .args .ops .now) (start .args .clipped .now) (start .args .starts .now) (start .args .counts .now) (start .args .flags .now) part) _ _ _
     (part-length c ∙ sym (length-inGroup (start .args .ops .now) (start .args .clipped .now) (start .args .starts .now) (start .args .counts .now) (start .args .flags .now) part))
     (c .filter-to-most-common-alignment-raw .ensures)
 
-stays-length : (c : tie.After-filter-to-most-common-alignment-raw) → let start = c .before .before .before .before .before .before .before .before .before .before in start .args .n ≡ length (take (start .args .n) (c .filter-to-most-common-alignment-raw .last .1 .1 .1 .1 .1 .1 .0))
+stays-length : (c : tie.After-filter-to-most-common-alignment-raw) → let start = c .before .before .before .before .before .before .before .before .before .before .before in start .args .n ≡ length (take (start .args .n) (c .filter-to-most-common-alignment-raw .last .1 .1 .1 .1 .1 .1 .0))
 stays-length c =
-    let start = c .before .before .before .before .before .before .before .before .before .before in
+    let start = c .before .before .before .before .before .before .before .before .before .before .before in
     let part = take (start .args .n) (start .args .side .now) in
     part-length c
     ∙ sym (ap length (own-stays c) ∙ length-inGroup (start .args .ops .now) (start .args .clipped .now) (start .args .starts .now) (start .args .counts .now) (start .args .flags .now) part)
+
+returns : tie.Need-returns
+returns c =
+    let start = c .before .before .before .before .before .before .before .before in
+    let side = take (start .args .n) (start .args .side .now) in
+    let size : length side ≡ start .args .n = simp length-take (omega (arith, start .pre .1 .1 .1 .1 .0)) in
+    let few : length side < 2 = omega (arith, size, c .if1 .taken) in
+    rw (few-kept (start .args .ops .now) (start .args .clipped .now) (start .args .starts .now) (start .args .counts .now) (start .args .flags .now) side few, few-dropped (start .args .ops .now) (start .args .clipped .now) (start .args .starts .now) (start .args .counts .now) (start .args .flags .now) side few)
+    (record { count = sym size; front = refl }, (refl, sym (givenFate-none _ _)))
 
 slice-reshare-prefix-filter-to-most-common-alignment-raw :
     tie.Need-slice-reshare-prefix-filter-to-most-common-alignment-raw
@@ -44,7 +54,7 @@ slice-aggregate-filter-to-most-common-alignment-raw-2 c = search needs
 filter-to-most-common-alignment-raw-requires :
     tie.Need-filter-to-most-common-alignment-raw-requires
 filter-to-most-common-alignment-raw-requires c κs =
-    let start = c .before .before .before .before .before .before .before .before .before in
+    let start = c .before .before .before .before .before .before .before .before .before .before in
     let few : length (take (start .args .n) (start .args .side .now)) ≤ 256 = simp length-take (omega (arith, start .pre .1 .1 .1 .1 .1)) in
     (start .pre .0, (start .pre .1 .0, (start .pre .1 .1 .0, (few, few))))
 
@@ -59,7 +69,7 @@ slice-aggregate-drop-others c = stays-length (c .before .before .before .before)
 
 drop-others-requires : tie.Need-drop-others-requires
 drop-others-requires c κs =
-    let start = c .before .before .before .before .before .before .before .before .before .before .before .before .before .before .before in
+    let start = c .before .before .before .before .before .before .before .before .before .before .before .before .before .before .before .before in
     let filtered = c .before .before .before .before .before in
     rw (← stays-length filtered) (start .pre .1 .1 .1 .1 .0, start .pre .1 .1 .1 .0)
 
@@ -69,8 +79,8 @@ same-length c = search needs
 same-length-2 : tie.Need-same-length-2
 same-length-2 c = search needs
 
-returns : tie.Need-returns
-returns c =
+returns-2 : tie.Need-returns-2
+returns-2 c =
     let filtered = c .before .before .before .before .before .before .before .before .before .before in
     rw (← stays-length filtered, own-stays filtered, c .before .before .before .before .before .before .before .before .number .ensures) at (c .before .before .before .before .drop-others .ensures)
 
@@ -78,6 +88,7 @@ pub keep-group-spec : {M : Type 1} → statement M
 keep-group-spec =
     tie.close
     (tie.spec
+    returns
     slice-reshare-prefix-filter-to-most-common-alignment-raw
     slice-aggregate-filter-to-most-common-alignment-raw
     slice-aggregate-filter-to-most-common-alignment-raw-2
@@ -88,4 +99,4 @@ keep-group-spec =
     drop-others-requires
     same-length
     same-length-2
-    returns)
+    returns-2)

@@ -1,23 +1,25 @@
--- The four exchanged bases by computing; every other base is kept.
-use mathlib.Core.Path.{sym}
-use Rattle.codec_strands.proofs.Complement.{complement-other}
+-- Each choice is what its call ensures.
+use mathlib.Core.Path.{_∙_, ap}
+use borrow.Author.Needs.{needs}
 use Rattle.codec_strands.proofs.strand.complement_base.Statement.{statement}
 use Rattle.codec_strands.proofs.strand.complement_base.Tie as tie
 
+pick-u8-requires : tie.Need-pick-u8-requires
+pick-u8-requires c κs = search needs
+
+pick-u8-requires-2 : tie.Need-pick-u8-requires-2
+pick-u8-requires-2 c κs = search needs
+
+pick-u8-requires-3 : tie.Need-pick-u8-requires-3
+pick-u8-requires-3 c κs = search needs
+
+pick-u8-requires-4 : tie.Need-pick-u8-requires-4
+pick-u8-requires-4 c κs = search needs
+
 returns : tie.Need-returns
-returns c = rw (c .match .keys1)
-
-returns-2 : tie.Need-returns-2
-returns-2 c = rw (c .match .keys2)
-
-returns-3 : tie.Need-returns-3
-returns-3 c = rw (c .match .keys3)
-
-returns-4 : tie.Need-returns-4
-returns-4 c = rw (c .match .keys4)
-
-returns-5 : tie.Need-returns-5
-returns-5 c = sym (complement-other _ (c .match .rest .0 .0 .0 .1) (c .match .rest .0 .0 .1) (c .match .rest .0 .1) (c .match .rest .1))
+returns c = simp (c .before .before .before .pick-u8 .ensures, c .before .before .pick-u82 .ensures, c .before .pick-u83 .ensures, c .pick-u84 .ensures)
 
 pub complement-base-spec : {M : Type 1} → statement M
-complement-base-spec = tie.close (tie.spec returns returns-2 returns-3 returns-4 returns-5)
+complement-base-spec =
+    tie.close
+    (tie.spec pick-u8-requires pick-u8-requires-2 pick-u8-requires-3 pick-u8-requires-4 returns)

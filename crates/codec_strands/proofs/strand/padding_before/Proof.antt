@@ -7,7 +7,7 @@ sub-result : tie.Need-sub-result
 sub-result c = search needs
 
 returns : tie.Need-returns
-returns c = simp (c .if1 .taken)
+returns c = (simp (c .if1 .taken), search needs)
 
 returns-2 : tie.Need-returns-2
 returns-2 c = search needs

@@ -1,73 +1,73 @@
--- The first i places are written; a turn writes one more.
-use mathlib.Core.Path.{_≡_, refl, sym, _∙_}
-use Prim.Native.Nat.{_-_, _≤_}
+-- Padding fills the first places, and the column is put over it where it begins.
+use mathlib.Core.Path.{sym}
 use native.Mathlib.Omega.{arith}
 use borrow.Author.Needs.{needs}
-use lib.ListN.{length, getD, length-set}
-use Rattle.lists.specs.Tabulate.{tabulate}
-use Rattle.lists.specs.Written.{written}
-use Rattle.lists.proofs.Tabulate.{tabulate-put, tabulate-all}
-use Rattle.codec_strands.specs.Strands.{turned, padded}
-use Rattle.codec_strands.proofs.Orientation.{length-turned-padded}
+use lib.ListN.{length}
+use lib.Seq.{length-take-le}
+use Rattle.codec_strands.specs.Strands.{turned}
+use Rattle.codec_strands.proofs.Orientation.{length-turned, begins, has-room, padded-put}
 use Rattle.codec_strands.proofs.strand.write_quals.Statement.{statement}
 use Rattle.codec_strands.proofs.strand.write_quals.Tie as tie
 
-abbrev Inv-loop : tie.InvT-loop
-Inv-loop quals reversed left n out₀ i₀ out i =
-    (i ≤ n) × (length out ≡ length out₀) × (out ≡ written (tabulate (λ k. getD (padded left 0 n (turned reversed quals)) k 0) i) out₀)
+padding-before-requires : tie.Need-padding-before-requires
+padding-before-requires c κs = search needs
 
-abbrev μ-loop : tie.MeasureT-loop
-μ-loop quals reversed left n out₀ i₀ out i = n - i
+slice-relend-prefix-fill-bytes : tie.Need-slice-relend-prefix-fill-bytes
+slice-relend-prefix-fill-bytes c = search needs
 
-loop-holds : tie.Need-loop-holds Inv-loop μ-loop
-unfolding tabulate
-loop-holds c = search needs
+slice-aggregate-fill-bytes : tie.Need-slice-aggregate-fill-bytes
+slice-aggregate-fill-bytes c = let args = c .before .before .before .before .args in sym (length-take-le (args .n) (args .out .now) (search needs))
 
-source-place-requires : tie.Need-source-place-requires Inv-loop μ-loop
-source-place-requires c κs = search needs
+fill-bytes-requires : tie.Need-fill-bytes-requires
+fill-bytes-requires c κs = search needs
 
-byte-or-requires : tie.Need-byte-or-requires Inv-loop μ-loop
-byte-or-requires c κs = search needs
+sub-turn-bytes : tie.Need-sub-turn-bytes
+sub-turn-bytes c =
+    let filled = c .before .before .fill-bytes in
+    let before = c .before .before .before .before .padding-before in
+    let args = c .before .before .before .before .before .before .before .args in
+    begins 0 (args .n) (before .result) (args .out .now) (filled .last .1 .0) (search needs) (filled .ensures) (length (args .quals .now)) (before .ensures .1)
 
-slice-write-out : tie.Need-slice-write-out Inv-loop μ-loop
-slice-write-out c = search needs
+part-turn-bytes-start : tie.Need-part-turn-bytes-start
+part-turn-bytes-start c =
+    let filled = c .before .before .fill-bytes in
+    let before = c .before .before .before .before .padding-before in
+    let args = c .before .before .before .before .before .before .before .args in
+    begins 0 (args .n) (before .result) (args .out .now) (filled .last .1 .0) (search needs) (filled .ensures) (length (args .quals .now)) (before .ensures .1)
 
-add-i : tie.Need-add-i Inv-loop μ-loop
-add-i c = search needs
+part-turn-bytes-end : tie.Need-part-turn-bytes-end
+part-turn-bytes-end c = search needs
 
-loop-less : tie.Need-loop-less Inv-loop μ-loop
-loop-less c = search needs
+turn-bytes-requires : tie.Need-turn-bytes-requires
+turn-bytes-requires c κs =
+    let filled = c .before .before .before .fill-bytes in
+    let args = c .before .before .before .before .before .before .before .before .args in
+    let before = c .before .before .before .before .before .padding-before in
+    has-room 0 (args .n) (before .result) (args .out .now) (filled .last .1 .0) (search needs) (filled .ensures) (length (args .quals .now)) (before .ensures .1)
 
-loop-again : tie.Need-loop-again Inv-loop μ-loop
-loop-again c =
-    let loop = c .before .before .before .loop in
-    let args = c .before .before .before .before .before .before .args in
-    let ys = padded (args .left) 0 (args .n) (turned (args .reversed) (args .quals .now)) in
-    let value = c .byte-or .ensures ∙ sym (c .before .source-place .ensures (args .quals .now) 0 refl) in
-    (search needs, simp length-set (loop .inv .1), tabulate-put (λ k. getD ys k 0) (args .out .now) (loop .i) (search needs) (loop .inv .2) value)
+same-length : tie.Need-same-length
+same-length c = search needs
 
-same-length : tie.Need-same-length Inv-loop μ-loop
-same-length c = c .before .loop .inv .1
-
-returns : tie.Need-returns Inv-loop μ-loop
+returns : tie.Need-returns
 returns c =
-    let args = c .before .before .before .before .args in
-    let fits : length (args .quals .now) ≤ args .n = search needs in
-    let size = length-turned-padded (args .reversed) (args .left) 0 (args .n) (args .quals .now) fits in
-    tabulate-all (padded (args .left) 0 (args .n) (turned (args .reversed) (args .quals .now))) (args .out .now) 0 (omega (arith, size)) (c .before .loop .inv .2)
+    let filled = c .before .before .before .before .before .before .fill-bytes in
+    let args = c .before .before .before .before .before .before .before .before .before .before .before .args in
+    let before = c .before .before .before .before .before .before .before .before .padding-before in
+    let column = turned (args .reversed) (args .quals .now) in
+    let size = length-turned (args .reversed) (args .quals .now) in
+    padded-put 0 (args .n) (before .result) (args .out .now) (filled .last .1 .0) (search needs) (filled .ensures) (args .left) column (c .before .before .turn-bytes .last .1 .1 .0) (omega (arith, size)) (rw size (before .ensures .0)) (c .before .before .turn-bytes .ensures)
 
 pub write-quals-spec : {M : Type 1} → statement M
 write-quals-spec =
     tie.close
     (tie.spec
-    Inv-loop
-    μ-loop
-    loop-holds
-    source-place-requires
-    byte-or-requires
-    slice-write-out
-    add-i
-    loop-less
-    loop-again
+    padding-before-requires
+    slice-relend-prefix-fill-bytes
+    slice-aggregate-fill-bytes
+    fill-bytes-requires
+    sub-turn-bytes
+    part-turn-bytes-start
+    part-turn-bytes-end
+    turn-bytes-requires
     same-length
     returns)
