@@ -18,7 +18,7 @@ use Rattle.caller.proofs.Refusals.{neither-refuses}
 use Rattle.codec_duplex.specs.Columns.{Strand}
 use Rattle.codec_duplex.specs.Duplex.{Duplex}
 use Rattle.codec_framing.specs.Framing.{tallyOf, DuplexRoom, Framable, Framed}
-use Rattle.codec_strands.specs.Strands.{Within, Room as Roomy}
+use Rattle.codec_strands.specs.Strands.{Within, StrandRoom as Roomy}
 use Rattle.codec_rejects.specs.Fates.{AreFates, settled, rejections}
 use Rattle.codec_rejects.specs.Handover.{markWords, listedRecords, listedReasons}
 use Rattle.codec_rejects.proofs.Listing.{length-handover}

@@ -1,4 +1,4 @@
--- Document 01, 'The answers': 'a family not called touches none of these twelve'.
+-- Document 01, 'The answers': 'a family not called touches none of these twelve'. Only inner contracts need it.
 use mathlib.Core.Bool.{Bool, true, false}
 use mathlib.Core.Path.{_≡_}
 use Rattle.codec_duplex.specs.Columns.{Strand}

@@ -34,8 +34,8 @@ unfoldable pub fieldAt : (Position → ℕ) → Strand → Strand → ℕ → �
 fieldAt field a b i = field (combined (positionAt a i) (positionAt b i))
 
 -- one column of the duplex
-unfoldable pub column : (Position → ℕ) → Strand → Strand → List ℕ
-column field a b = tabulate (fieldAt field a b) (length (a .bases))
+unfoldable pub combinedColumn : (Position → ℕ) → Strand → Strand → List ℕ
+combinedColumn field a b = tabulate (fieldAt field a b) (length (a .bases))
 
 -- the columns are equally long, not above 2,048, and no result is shorter
 abbrev pub columnsFit : (columns results : List ℕ) → Bool
@@ -58,7 +58,7 @@ pub record Fitting (a b : Strand) (result : Duplex) : Type 0 where
 
 -- the duplex fills the first places of four columns
 pub record Filled (a b : Strand) (before after : Duplex) : Type 0 where
-  pub bases : after .bases ≡ written (column Position.base a b) (before .bases)
-  pub quals : after .quals ≡ written (column Position.quality a b) (before .quals)
-  pub depths : after .depths ≡ written (column Position.depth a b) (before .depths)
-  pub errors : after .errors ≡ written (column Position.error a b) (before .errors)
+  pub bases : after .bases ≡ written (combinedColumn Position.base a b) (before .bases)
+  pub quals : after .quals ≡ written (combinedColumn Position.quality a b) (before .quals)
+  pub depths : after .depths ≡ written (combinedColumn Position.depth a b) (before .depths)
+  pub errors : after .errors ≡ written (combinedColumn Position.error a b) (before .errors)

@@ -9,21 +9,21 @@ use Rattle.codec_duplex.specs.declared.limits.DuplexAnswer.the-variants.
 use Rattle.codec_duplex.specs.declared.tally.DuplexBaseTally.{DuplexBaseTally}
 
 -- the paper's cases: both tallies; which limit rejected, with the figure of the Rust's error; a refusal's number and what goes with it
-pub data Outcome : Type 0 where
-  tallies : (bases disagreements : ℕ) → Outcome
-  overCount : (disagreements : ℕ) → Outcome
-  overRate : (rate : Float) → Outcome
-  refused : (number with : ℕ) → Outcome
+pub data Judgement : Type 0 where
+  tallies : (bases disagreements : ℕ) → Judgement
+  overCount : (disagreements : ℕ) → Judgement
+  overRate : (rate : Float) → Judgement
+  refused : (number with : ℕ) → Judgement
 
 -- the paper's case, number and values of an answer
-abbrev pub outcomeOf : DuplexAnswer → Outcome
-outcomeOf (Duplex tally) = tallies (tally .bases) (tally .disagreements)
-outcomeOf (DisagreementCount disagreements) = overCount disagreements
-outcomeOf (DisagreementRate rate) = overRate rate
-outcomeOf Refused = refused 12 0
+abbrev pub judgementOf : DuplexAnswer → Judgement
+judgementOf (Duplex tally) = tallies (tally .bases) (tally .disagreements)
+judgementOf (DisagreementCount disagreements) = overCount disagreements
+judgementOf (DisagreementRate rate) = overRate rate
+judgementOf Refused = refused 12 0
 
 -- the case in which a duplex is written
-abbrev pub isDuplex : Outcome → Bool
+abbrev pub isDuplex : Judgement → Bool
 isDuplex (tallies bases disagreements) = true
 isDuplex (overCount disagreements) = false
 isDuplex (overRate rate) = false
@@ -35,7 +35,7 @@ rateOf tally = div binary64 (ofInt binary64 (pos (tally .disagreements))) (ofInt
 
 -- only with at least one position both strands call: more disagreements than the count limit rejects;
 -- otherwise a rate strictly above the rate limit does
-unfoldable pub judged : DuplexBaseTally → (count : ℕ) (rate : Float) → Outcome
+unfoldable pub judged : DuplexBaseTally → (count : ℕ) (rate : Float) → Judgement
 judged tally count rate =
     cond (eqb (tally .bases) 0) (tallies (tally .bases) (tally .disagreements))
     (cond (ltb count (tally .disagreements)) (overCount (tally .disagreements))

@@ -1,7 +1,7 @@
 // Which duplexes disagree too much.
 use crate::tally::DuplexBaseTally;
 ghost use mathlib.Core.Path.{_≡_};
-ghost use Rattle.codec_duplex.specs.Limits.{outcomeOf, isDuplex, rateOf, judged};
+ghost use Rattle.codec_duplex.specs.Limits.{judgementOf, isDuplex, rateOf, judged};
 
 // What combining alone answers: both tallies, which limit rejected with its figure, or that the columns do not fit.
 pub enum DuplexAnswer {
@@ -12,7 +12,7 @@ pub enum DuplexAnswer {
 }
 
 pub fn is_duplex(answer: DuplexAnswer) -> bool
-    ensures { λ r. ⌜ r ≡ isDuplex (outcomeOf answer) ⌝ }
+    ensures { λ r. ⌜ r ≡ isDuplex (judgementOf answer) ⌝ }
 {
     match answer {
         DuplexAnswer::Duplex(_) => true,
@@ -30,7 +30,7 @@ fn disagreement_rate(tally: DuplexBaseTally) -> f64
 
 // Without a position that both strands call nothing is rejected; a rate limit that is NaN rejects nothing either.
 pub fn judge(tally: DuplexBaseTally, max_disagreements: u64, max_rate: f64) -> DuplexAnswer
-    ensures { λ r. ⌜ outcomeOf r ≡ judged tally «max_disagreements» «max_rate» ⌝ }
+    ensures { λ r. ⌜ judgementOf r ≡ judged tally «max_disagreements» «max_rate» ⌝ }
 {
     if tally.bases == 0 {
         return DuplexAnswer::Duplex(tally);

@@ -37,7 +37,7 @@ pub record Fits (f : Frame) (hasR1 : Bool) (r1 : List ℕ) (hasR2 : Bool) (r2 : 
   pub r2-fits : length r2 ≤ f .length
   pub long : calledLength e ≡ f .length
 
-limits-length : (out : limits.Outcome) (n : ℕ) → isCalled (byLimits out n) ≡ true → calledLength (byLimits out n) ≡ n
+limits-length : (out : limits.Judgement) (n : ℕ) → isCalled (byLimits out n) ≡ true → calledLength (byLimits out n) ≡ n
 limits-length (limits.tallies bases disagreements) n e = refl
 limits-length (limits.overCount disagreements) n e = absurd (false≢true e)
 limits-length (limits.overRate rate) n e = absurd (false≢true e)

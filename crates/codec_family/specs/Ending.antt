@@ -12,8 +12,8 @@ use Rattle.codec_strands.specs.declared.mask.Masks.{Masks}
 use Rattle.codec_duplex.specs.declared.tally.DuplexBaseTally.{DuplexBaseTally}
 use Rattle.codec_framing.specs.Framing as framing
 use Rattle.codec_framing.specs.declared.frame.Frame.{Frame}
-use Rattle.codec_select.specs.Selection.{outcomeOf}
-use Rattle.codec_select.specs.Steps.{Outcome}
+use Rattle.codec_select.specs.Selection.{courseOf}
+use Rattle.codec_select.specs.Steps.{Course}
 use Rattle.codec_select.specs.declared.options.Options.{Options}
 use Rattle.codec_select.specs.declared.selection.Decision.{Decision}
 use Rattle.codec_select.specs.declared.selection.Decision.the-variants as decisions
@@ -41,8 +41,8 @@ calledLength (Disagreeing limit) = 0
 calledLength (Refused number given) = 0
 
 -- steps 1 to 7
-abbrev pub selection : Call → Outcome
-selection c = outcomeOf (c .options) (length (c .records)) (c .records) (c .ops)
+abbrev pub selection : Call → Course
+selection c = courseOf (c .options) (length (c .records)) (c .records) (c .ops)
 
 -- step 7's length, and whether R1's and R2's longest have flag 16
 abbrev pub frameOf : Decision → Frame
@@ -55,7 +55,7 @@ abbrev pub frame : Call → Frame
 frame c = frameOf (selection c .decision)
 
 -- step 9: the two limits on the positions that both strands' bases call and those of them where they differ
-unfoldable pub judgement : Options → Frame → (r1 r2 : List ℕ) → limits.Outcome
+unfoldable pub judgement : Options → Frame → (r1 r2 : List ℕ) → limits.Judgement
 judgement o f r1 r2 = limits.judged (framing.tallyOf f r1 r2) (o .«max_duplex_disagreements») (o .«max_duplex_disagreement_rate»)
 
 -- step 8: 'Length below a strand's'
@@ -63,7 +63,7 @@ abbrev pub tooShort : Frame → (r1 r2 : List ℕ) → Bool
 tooShort f r1 r2 = ltb (f .length) (length r1) || ltb (f .length) (length r2)
 
 -- step 9: 'HighDuplexDisagreement', by the count or by the rate, or the duplex is called
-abbrev pub byLimits : limits.Outcome → ℕ → Ending
+abbrev pub byLimits : limits.Judgement → ℕ → Ending
 byLimits (limits.tallies bases disagreements) length = Called length
 byLimits (limits.overCount disagreements) length = Disagreeing Count
 byLimits (limits.overRate rate) length = Disagreeing Rate

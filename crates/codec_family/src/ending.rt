@@ -13,7 +13,7 @@ use codec_select::selection::Decision;
 ghost use mathlib.Core.Path.{_≡_};
 ghost use Prim.Native.Nat.{_≤_};
 ghost use lib.ListN.{length};
-ghost use Rattle.codec_duplex.specs.Limits.{outcomeOf};
+ghost use Rattle.codec_duplex.specs.Limits.{judgementOf};
 ghost use Rattle.codec_framing.specs.Framing.{tallyOf};
 ghost use Rattle.codec_family.specs.Ending.{isCalled, frameOf, judgement, byLimits, fromStrands, endingFrom, tallyWhere, verdictOf};
 ghost use Rattle.codec_family.specs.Fates.{fateBy};
@@ -68,7 +68,7 @@ pub fn fate_by(ending: Ending) -> u8
 }
 
 fn by_limits(answer: DuplexAnswer, length: u64) -> Ending
-    ensures { λ r. ⌜ r ≡ byLimits (outcomeOf answer) length ⌝ }
+    ensures { λ r. ⌜ r ≡ byLimits (judgementOf answer) length ⌝ }
 {
     match answer {
         DuplexAnswer::Duplex(_) => Ending::Called(length),

@@ -7,10 +7,10 @@ use lib.Ieee.{Float}
 use lib.ListN.{length}
 use Rattle.lists.specs.Every.{every}
 use Rattle.lists.specs.Written.{written}
-use Rattle.codec_duplex.specs.Columns.{Strand, strand, column}
+use Rattle.codec_duplex.specs.Columns.{Strand, strand, combinedColumn}
 use Rattle.codec_duplex.specs.Combining.{outcome, left}
 use Rattle.codec_duplex.specs.Duplex.{Duplex, duplex, duplexLengths}
-use Rattle.codec_duplex.specs.Limits.{Outcome, refused}
+use Rattle.codec_duplex.specs.Limits.{Judgement, refused}
 use Rattle.codec_duplex.specs.declared.position.Position.{Position}
 use Rattle.codec_ffi.specs.Answer.{reported}
 use Rattle.codec_ffi.specs.Words.{words, lowFirst, even}
@@ -31,7 +31,7 @@ abbrev pub duplexPairLengths : Duplex → List ℕ
 duplexPairLengths d = length (d .depths) ∷ length (d .errors) ∷ []
 
 -- an odd length there is refusal 12; otherwise as combining alone
-unfoldable pub byteOutcome : (a b : Strand) (results : Duplex) (count : ℕ) (rate : Float) → Outcome
+unfoldable pub byteOutcome : (a b : Strand) (results : Duplex) (count : ℕ) (rate : Float) → Judgement
 byteOutcome a b results count rate =
     cond (every even (pairLengths a ++ pairLengths b ++ duplexPairLengths results))
     (outcome (read a) (read b) (duplexLengths (readDuplex results)) count rate)
@@ -39,14 +39,14 @@ byteOutcome a b results count rate =
 
 -- the duplex fills the first bytes of four columns
 pub record FilledBytes (a b : Strand) (before after : Duplex) : Type 0 where
-  pub bases : after .bases ≡ written (column Position.base (read a) (read b)) (before .bases)
-  pub quals : after .quals ≡ written (column Position.quality (read a) (read b)) (before .quals)
-  pub depths : after .depths ≡ written (lowFirst (column Position.depth (read a) (read b))) (before .depths)
-  pub errors : after .errors ≡ written (lowFirst (column Position.error (read a) (read b))) (before .errors)
+  pub bases : after .bases ≡ written (combinedColumn Position.base (read a) (read b)) (before .bases)
+  pub quals : after .quals ≡ written (combinedColumn Position.quality (read a) (read b)) (before .quals)
+  pub depths : after .depths ≡ written (lowFirst (combinedColumn Position.depth (read a) (read b))) (before .depths)
+  pub errors : after .errors ≡ written (lowFirst (combinedColumn Position.error (read a) (read b))) (before .errors)
 
 pub record CombiningBytes (a b : Strand) (count : ℕ) (rate : Float) (r : CombineAnswer) (before after : Duplex) : Type 0 where
   pub answer : r ≡ reported (byteOutcome a b before count rate)
-  pub bases : after .bases ≡ left (byteOutcome a b before count rate) (column Position.base (read a) (read b)) (before .bases)
-  pub quals : after .quals ≡ left (byteOutcome a b before count rate) (column Position.quality (read a) (read b)) (before .quals)
-  pub depths : after .depths ≡ left (byteOutcome a b before count rate) (lowFirst (column Position.depth (read a) (read b))) (before .depths)
-  pub errors : after .errors ≡ left (byteOutcome a b before count rate) (lowFirst (column Position.error (read a) (read b))) (before .errors)
+  pub bases : after .bases ≡ left (byteOutcome a b before count rate) (combinedColumn Position.base (read a) (read b)) (before .bases)
+  pub quals : after .quals ≡ left (byteOutcome a b before count rate) (combinedColumn Position.quality (read a) (read b)) (before .quals)
+  pub depths : after .depths ≡ left (byteOutcome a b before count rate) (lowFirst (combinedColumn Position.depth (read a) (read b))) (before .depths)
+  pub errors : after .errors ≡ left (byteOutcome a b before count rate) (lowFirst (combinedColumn Position.error (read a) (read b))) (before .errors)

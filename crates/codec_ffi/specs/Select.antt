@@ -6,7 +6,7 @@ use Prim.Native.Nat.{ℕ}
 use lib.ListN.{length}
 use Rattle.caller.specs.Reasons.{numberOf}
 use Rattle.codec_select.specs.Marks.{marks, sideFlags}
-use Rattle.codec_select.specs.Selection.{outcomeOf}
+use Rattle.codec_select.specs.Selection.{courseOf}
 use Rattle.codec_select.specs.declared.options.Options.{Options}
 use Rattle.codec_select.specs.declared.records.Record.{Record}
 use Rattle.codec_select.specs.declared.selection.Decision.{Decision}
@@ -29,6 +29,6 @@ reportedSelection (Refused number given) = withoutWindow 3 number given
 
 -- 'kept records of each side as mark words, window, length and orientation; or only empty; or only the ending reason'
 pub record SelectingRecords (o : Options) (count : ℕ) (records : List Record) (ops : List ℕ) (answer : SelectAnswer) : Type 0 where
-  pub decision : answer .decision ≡ reportedSelection (outcomeOf o count records ops .decision)
-  pub r1 : answer .r1 ≡ marks (sideFlags (outcomeOf o count records ops .r1) (length records))
-  pub r2 : answer .r2 ≡ marks (sideFlags (outcomeOf o count records ops .r2) (length records))
+  pub decision : answer .decision ≡ reportedSelection (courseOf o count records ops .decision)
+  pub r1 : answer .r1 ≡ marks (sideFlags (courseOf o count records ops .r1) (length records))
+  pub r2 : answer .r2 ≡ marks (sideFlags (courseOf o count records ops .r2) (length records))

@@ -1,7 +1,7 @@
 // What the host is told.
 use codec_duplex::limits::DuplexAnswer;
 ghost use mathlib.Core.Path.{_≡_};
-ghost use Rattle.codec_duplex.specs.Limits.{outcomeOf};
+ghost use Rattle.codec_duplex.specs.Limits.{judgementOf};
 ghost use Rattle.codec_ffi.specs.Answer.{reported};
 
 // Kind 0 has both tallies, 1 the disagreements above the count limit, 2 the rate above the rate limit, 3 a refusal's number and what goes with it.
@@ -16,7 +16,7 @@ pub struct CombineAnswer {
 }
 
 pub fn report(answer: DuplexAnswer) -> CombineAnswer
-    ensures { λ r. ⌜ r ≡ reported (outcomeOf answer) ⌝ }
+    ensures { λ r. ⌜ r ≡ reported (judgementOf answer) ⌝ }
 {
     match answer {
         DuplexAnswer::Duplex(tally) => CombineAnswer {

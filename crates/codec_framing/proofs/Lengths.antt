@@ -4,7 +4,7 @@ use mathlib.Core.Path.{_≡_, _∙_}
 use Prim.Native.Nat.{ℕ}
 use lib.ListN.{length}
 use Rattle.lists.proofs.Tabulate.{length-tabulate}
-use Rattle.codec_duplex.specs.Columns.{Strand, fieldAt, column}
+use Rattle.codec_duplex.specs.Columns.{Strand, fieldAt, combinedColumn}
 use Rattle.codec_duplex.specs.Duplex.{Duplex}
 use Rattle.codec_duplex.specs.declared.position.Position.{Position}
 use Rattle.codec_strands.specs.Strands.{oriented, paddedStrand, Within}
@@ -62,8 +62,8 @@ module _ (f : Frame) (s : Strand) (within : Within (f .length) s) where
   unfolding strandR2
   long-strandR2 = long-oriented (f .«r1_is_negative») (f .length) (paddedR2 f s) long-paddedR2
 
-pub length-column : (field : Position → ℕ) (a b : Strand) → length (column field a b) ≡ length (a .bases)
-unfolding column
+pub length-column : (field : Position → ℕ) (a b : Strand) → length (combinedColumn field a b) ≡ length (a .bases)
+unfolding combinedColumn
 length-column field a b = length-tabulate (fieldAt field a b) (length (a .bases))
 
 module _ (masks : Masks) (f : Frame) (r1 r2 : Strand) (within : Within (f .length) r1) where
@@ -75,7 +75,7 @@ module _ (masks : Masks) (f : Frame) (r1 r2 : Strand) (within : Within (f .lengt
       let long = long-paddedR1 f r1 within .bases in
       record {
         bases = length-column Position.base a b ∙ long;
-        quals = length-masked masks (a .bases) (b .bases) (column Position.quality a b) ∙ length-column Position.quality a b ∙ long;
+        quals = length-masked masks (a .bases) (b .bases) (combinedColumn Position.quality a b) ∙ length-column Position.quality a b ∙ long;
         depths = length-column Position.depth a b ∙ long;
         errors = length-column Position.error a b ∙ long;
       }

@@ -11,7 +11,7 @@ use Rattle.lists.proofs.Written.{take-written, written-again, length-written}
 use Rattle.codec_duplex.specs.Columns.{Strand, strand, Fitting}
 use Rattle.codec_duplex.specs.Duplex.{Duplex, duplex, writtenDuplex}
 use Rattle.codec_strands.specs.Masks.{masked}
-use Rattle.codec_strands.specs.Strands.{turned, turnedBases, oriented, firstPlaces, writtenStrand, Room}
+use Rattle.codec_strands.specs.Strands.{turned, turnedBases, oriented, firstPlaces, writtenStrand, StrandRoom}
 use Rattle.codec_strands.specs.declared.mask.Masks.{Masks}
 use Rattle.codec_strands.proofs.Orientation.{length-turned, length-turnedBases}
 use Rattle.codec_strands.proofs.StrandLaws.{same-columns, length-masked}
@@ -39,7 +39,7 @@ masked-written masks a b n quals old size put mask =
     mask ∙ rw (put, take-written quals old n size) (written-again quals (masked masks a b quals) old (omega (arith, length-masked masks a b quals)))
 
 -- two strands and a result that have room for n places
-pub fitting-first : (n : ℕ) (a b : Strand) (d : Duplex) → Room n a → Room n b → DuplexRoom n d → Fitting (firstPlaces n a) (firstPlaces n b) d
+pub fitting-first : (n : ℕ) (a b : Strand) (d : Duplex) → StrandRoom n a → StrandRoom n b → DuplexRoom n d → Fitting (firstPlaces n a) (firstPlaces n b) d
 fitting-first n a b d ra rb rd =
     let size = length-take-le n (a .bases) (ra .bases) in
     record {
@@ -91,7 +91,7 @@ module _ (n : ℕ) (s before : Strand) {mid : Strand} (long : Long n s) (put : m
       (turned-column reversed n (s .errors) (before .errors) (long .errors))
 
   -- no column becomes longer or shorter
-  alike-written : Room n before → Alike mid before
+  alike-written : StrandRoom n before → Alike mid before
   alike-written room =
       record {
         bases = ap (λ (m : Strand). length (m .bases)) put ∙ length-written (s .bases) (before .bases) (omega (arith, long .bases, room .bases));
@@ -100,7 +100,7 @@ module _ (n : ℕ) (s before : Strand) {mid : Strand} (long : Long n s) (put : m
         errors = ap (λ (m : Strand). length (m .errors)) put ∙ length-written (s .errors) (before .errors) (omega (arith, long .errors, room .errors));
       }
 
-  room-written : Room n before → Room n mid
+  room-written : StrandRoom n before → StrandRoom n mid
   room-written room =
       let same = alike-written room in
       record {
@@ -120,13 +120,13 @@ asDuplex s = duplex (s .bases) (s .quals) (s .depths) (s .errors)
 long-columns : {n : ℕ} {d : Duplex} → DuplexLong n d → Long n (asStrand d)
 long-columns long = record { bases = long .bases; quals = long .quals; depths = long .depths; errors = long .errors }
 
-room-columns : {n : ℕ} {d : Duplex} → DuplexRoom n d → Room n (asStrand d)
+room-columns : {n : ℕ} {d : Duplex} → DuplexRoom n d → StrandRoom n (asStrand d)
 room-columns room = record { bases = room .bases; quals = room .quals; depths = room .depths; errors = room .errors }
 
 module _ (masks : Masks) {f : Frame} {r1 r2 : Strand} {d : Duplex} {s1 s2 : Strand} (fits : Framable f r1 r2 d s1 s2) where
   -- where the padded strands were written
   module _ {mid1 mid2 : Strand} (put1 : mid1 ≡ writtenStrand (paddedR1 f r1) s1) (put2 : mid2 ≡ writtenStrand (paddedR2 f r2) s2) where
-    pub padded-rooms : Room (f .length) mid1 × Room (f .length) mid2
+    pub padded-rooms : StrandRoom (f .length) mid1 × StrandRoom (f .length) mid2
     padded-rooms = (
       room-written (f .length) (paddedR1 f r1) s1 (long-paddedR1 f r1 (fits .r1)) put1 (fits .s1),
       room-written (f .length) (paddedR2 f r2) s2 (long-paddedR2 f r2 (fits .r2)) put2 (fits .s2),
@@ -142,7 +142,7 @@ module _ (masks : Masks) {f : Frame} {r1 r2 : Strand} {d : Duplex} {s1 s2 : Stra
           (first-written (f .length) (paddedR1 f r1) s1 (long-paddedR1 f r1 (fits .r1)) put1)
           (first-written (f .length) (paddedR2 f r2) s2 (long-paddedR2 f r2 (fits .r2)) put2)
 
-      pub combined-room : Room (f .length) (strand bases quals depths errors)
+      pub combined-room : StrandRoom (f .length) (strand bases quals depths errors)
       combined-room =
           room-written (f .length) (asStrand (combinedStrands masks f r1 r2)) (asStrand d) (long-columns (long-combinedStrands masks f r1 r2 (fits .r1)))
           (ap asStrand combined-written) (room-columns (fits .duplex))

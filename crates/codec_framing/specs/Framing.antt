@@ -5,13 +5,13 @@ use mathlib.Core.List.{List}
 use mathlib.Core.Path.{_≡_}
 use Prim.Native.Nat.{ℕ, _≤_}
 use lib.ListN.{length}
-use Rattle.codec_duplex.specs.Columns.{Strand, column}
+use Rattle.codec_duplex.specs.Columns.{Strand, combinedColumn}
 use Rattle.codec_duplex.specs.Duplex.{Duplex, duplex, writtenDuplex}
 use Rattle.codec_duplex.specs.Tally.{tallied}
 use Rattle.codec_duplex.specs.declared.position.Position.{Position}
 use Rattle.codec_duplex.specs.declared.tally.DuplexBaseTally.{DuplexBaseTally}
 use Rattle.codec_strands.specs.Masks.{masked}
-use Rattle.codec_strands.specs.Strands.{turned, turnedBases, oriented, padded, paddedStrand, writtenStrand, Within, Room}
+use Rattle.codec_strands.specs.Strands.{turned, turnedBases, oriented, padded, paddedStrand, writtenStrand, Within, StrandRoom}
 use Rattle.codec_strands.specs.declared.mask.Masks.{Masks}
 use Rattle.codec_framing.specs.declared.frame.Frame.{Frame}
 
@@ -38,10 +38,10 @@ tallyOf f r1 r2 = tallied (paddedBasesR1 f r1) (paddedBasesR2 f r2)
 unfoldable pub maskedDuplex : Masks → (a b : Strand) → Duplex
 maskedDuplex masks a b =
     duplex
-    (column Position.base a b)
-    (masked masks (a .bases) (b .bases) (column Position.quality a b))
-    (column Position.depth a b)
-    (column Position.error a b)
+    (combinedColumn Position.base a b)
+    (masked masks (a .bases) (b .bases) (combinedColumn Position.quality a b))
+    (combinedColumn Position.depth a b)
+    (combinedColumn Position.error a b)
 
 -- 'Combine with R1 first: … mask'
 unfoldable pub combinedStrands : Masks → Frame → (r1 r2 : Strand) → Duplex
@@ -74,8 +74,8 @@ pub record Framable (f : Frame) (first second : Strand) (lent : Duplex) (lent1 l
   pub r1 : Within (f .length) first
   pub r2 : Within (f .length) second
   pub duplex : DuplexRoom (f .length) lent
-  pub s1 : Room (f .length) lent1
-  pub s2 : Room (f .length) lent2
+  pub s1 : StrandRoom (f .length) lent1
+  pub s2 : StrandRoom (f .length) lent2
 
 -- the duplex and both padded strands fill the first positions of four columns each
 pub record Framed (f : Frame) (masks : Masks) (first second : Strand) (before after : Duplex) (before1 after1 before2 after2 : Strand) : Type 0 where

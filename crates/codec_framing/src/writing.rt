@@ -8,7 +8,7 @@ use codec_strands::turn::reverse_complement_if;
 ghost use mathlib.Core.Path.{_≡_};
 ghost use Rattle.codec_duplex.specs.Columns.{strand, Fitting};
 ghost use Rattle.codec_duplex.specs.Duplex.{duplex, writtenDuplex};
-ghost use Rattle.codec_strands.specs.Strands.{firstPlaces, writtenStrand, Within, Room};
+ghost use Rattle.codec_strands.specs.Strands.{firstPlaces, writtenStrand, Within, StrandRoom};
 ghost use Rattle.codec_framing.specs.Framing.{paddedR1, paddedR2, maskedDuplex, DuplexRoom, Framable, Framed};
 
 // Both strands in the duplex's frame.
@@ -34,8 +34,8 @@ fn pad_strands(
     requires { ⌜
         Within (frame .length) (strand (now «r1_bases») (now «r1_quals») (now «r1_depths») (now «r1_errors»))
         × Within (frame .length) (strand (now «r2_bases») (now «r2_quals») (now «r2_depths») (now «r2_errors»))
-        × Room (frame .length) (strand (now «s1_bases») (now «s1_quals») (now «s1_depths») (now «s1_errors»))
-        × Room (frame .length) (strand (now «s2_bases») (now «s2_quals») (now «s2_depths») (now «s2_errors»))
+        × StrandRoom (frame .length) (strand (now «s1_bases») (now «s1_quals») (now «s1_depths») (now «s1_errors»))
+        × StrandRoom (frame .length) (strand (now «s2_bases») (now «s2_quals») (now «s2_depths») (now «s2_errors»))
         ⌝ }
     ensures { λ _. ⌜
         (strand (now («s1_bases» .exit)) (now («s1_quals» .exit)) (now («s1_depths» .exit)) (now («s1_errors» .exit))
@@ -140,8 +140,8 @@ fn combine_padded(
     errors: &mut [u16],
 )
     requires { ⌜
-        Room n (strand (now «a_bases») (now «a_quals») (now «a_depths») (now «a_errors»))
-        × Room n (strand (now «b_bases») (now «b_quals») (now «b_depths») (now «b_errors»))
+        StrandRoom n (strand (now «a_bases») (now «a_quals») (now «a_depths») (now «a_errors»))
+        × StrandRoom n (strand (now «b_bases») (now «b_quals») (now «b_depths») (now «b_errors»))
         × DuplexRoom n (duplex (now bases) (now quals) (now depths) (now errors))
         ⌝ }
     ensures { λ _. ⌜

@@ -13,12 +13,12 @@ use Rattle.codec_pairing.specs.declared.refusal.Cause.{Cause}
 use Rattle.caller.specs.declared.refusal.Refusal.{Refusal}
 use Rattle.caller.specs.declared.refusal.Refusal.the-variants.{NoRefusal, Refused}
 use Rattle.caller.specs.Fates.{UNDECIDED}
-use Rattle.codec_pairing.specs.Refusals.{Reads, numberOf, hasCause, readOf, gives, lowest, refusedBy, isUndecided}
+use Rattle.codec_pairing.specs.Refusals.{Reads, refusalNumber, hasCause, readOf, gives, lowest, refusedBy, isUndecided}
 
 module _ (cause : Cause) (f : Reads) where
   -- the refusal that the records from record i on give
   abbrev pub fromOn : ℕ → Refusal
-  fromOn i = lowest (numberOf cause) (numbersFrom (gives cause f) i (length (f .clipped) - i))
+  fromOn i = lowest (refusalNumber cause) (numbersFrom (gives cause f) i (length (f .clipped) - i))
 
   pub from-first : refusedBy cause f ≡ fromOn 0
   unfolding refusedBy
@@ -26,7 +26,7 @@ module _ (cause : Cause) (f : Reads) where
       let all : length (f .clipped) - 0 ≡ length (f .clipped) = omega arith in
       rw all
 
-  pub from-given : (i : ℕ) → i < length (f .clipped) → gives cause f i ≡ true → fromOn i ≡ Refused (numberOf cause) i
+  pub from-given : (i : ℕ) → i < length (f .clipped) → gives cause f i ≡ true → fromOn i ≡ Refused (refusalNumber cause) i
   from-given i h given = rw (numbers-yes (gives cause f) (length (f .clipped)) i h given)
 
   pub from-passed : (i : ℕ) → i < length (f .clipped) → gives cause f i ≡ false → fromOn i ≡ fromOn (i + 1)

@@ -36,11 +36,11 @@ unfoldable pub badPlace : ℕ → List ℕ → Bool
 badPlace position part = eqb position 0 || ltb 536870911 position || ltb 536870911 (referenceLength part)
 
 -- the table's column 'No.'
-abbrev pub numberOf : Cause → ℕ
-numberOf Part = 3
-numberOf Words = 4
-numberOf Bases = 5
-numberOf Place = 6
+abbrev pub refusalNumber : Cause → ℕ
+refusalNumber Part = 3
+refusalNumber Words = 4
+refusalNumber Bases = 5
+refusalNumber Place = 6
 
 -- the table's column 'Cause'
 unfoldable pub hasCause : Cause → List ℕ → Read → Bool
@@ -78,7 +78,7 @@ lowest number (i ∷ later) = Refused number i
 
 -- 'then lowest record'
 unfoldable pub refusedBy : Cause → Reads → Refusal
-refusedBy cause f = lowest (numberOf cause) (numbersFrom (gives cause f) 0 (length (f .clipped)))
+refusedBy cause f = lowest (refusalNumber cause) (numbersFrom (gives cause f) 0 (length (f .clipped)))
 
 -- 'Lowest number first', over all records
 unfoldable pub refusalOfRecords : Reads → Refusal

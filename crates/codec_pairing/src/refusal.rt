@@ -6,7 +6,7 @@ use raw_bam::cigar::is_operation;
 ghost use mathlib.Core.Path.{_≡_};
 ghost use Prim.Native.Nat.{_≤_, min};
 ghost use lib.ListN.{length};
-ghost use Rattle.codec_pairing.specs.Refusals.{opsOf, badPart, badWords, badBases, badPlace, numberOf, hasCause, Alike, reads, refusedBy, refusalOfRecords, firstRefusal};
+ghost use Rattle.codec_pairing.specs.Refusals.{opsOf, badPart, badWords, badBases, badPlace, refusalNumber, hasCause, Alike, reads, refusedBy, refusalOfRecords, firstRefusal};
 
 // What the refusals look at of a record, beside its operations.
 pub struct Read {
@@ -26,7 +26,7 @@ pub enum Cause {
 
 impl Cause {
     pub fn number(self) -> u32
-        ensures { λ r. ⌜ r ≡ numberOf self ⌝ }
+        ensures { λ r. ⌜ r ≡ refusalNumber self ⌝ }
     {
         match self {
             Cause::Part => 3,

@@ -12,8 +12,8 @@ use Rattle.codec_select.specs.Alignments.{Alignments, alignments, alignm
 use Rattle.codec_select.specs.Marks.{marks, sideFlags}
 use Rattle.codec_select.specs.Records.{column}
 use Rattle.codec_pairing.specs.Refusals.{firstRefusal}
-use Rattle.codec_select.specs.Selection.{outcomeOf, SelectsInto, Selects}
-use Rattle.codec_select.specs.Steps.{Outcome, OutcomeIn, unlessRefused, selected}
+use Rattle.codec_select.specs.Selection.{courseOf, SelectsInto, Selects}
+use Rattle.codec_select.specs.Steps.{Course, CourseIn, unlessRefused, selected}
 use Rattle.codec_select.specs.declared.options.Options.{Options}
 use Rattle.codec_select.specs.declared.records.Record.{Record}
 use Rattle.caller.specs.declared.refusal.Refusal.the-variants as refusals
@@ -40,12 +40,12 @@ abbrev refusedMany : Options → Decision
 refusedMany o = cond (ltb 2147483647 (o .«min_duplex_length»)) (Refused 1 0) (Refused 2 0)
 
 -- nothing is kept
-record Unkept (decision : Decision) (outcome : Outcome) : Type 0 where
+record Unkept (decision : Decision) (outcome : Course) : Type 0 where
   pub ends : outcome .decision ≡ decision
   pub no-r1 : outcome .r1 ≡ []
   pub no-r2 : outcome .r2 ≡ []
 
-by-minimum : (test : Bool) (fates : List ℕ) (outcome : Outcome)
+by-minimum : (test : Bool) (fates : List ℕ) (outcome : Course)
     → Unkept (cond test (Refused 1 0) (Refused 2 0)) (unlessRefused (cond test (refusals.Refused 1 0) (refusals.Refused 2 0)) fates outcome)
 by-minimum true fates outcome = record { ends = refl; no-r1 = refl; no-r2 = refl }
 by-minimum false fates outcome = record { ends = refl; no-r1 = refl; no-r2 = refl }
@@ -54,7 +54,7 @@ many-refused : (o : Options) (count : ℕ) → 512 < count → (names : List ℕ
 unfolding selected firstRefusal
 many-refused o count many names verdicts ranks a = rw (lt-ltb 512 count many) (by-minimum (ltb 2147483647 (o .«min_duplex_length»)) _ _)
 
-records-refused : (o : Options) (count : ℕ) → 512 < count → (records : List Record) (ops : List ℕ) → Unkept (refusedMany o) (outcomeOf o count records ops)
+records-refused : (o : Options) (count : ℕ) → 512 < count → (records : List Record) (ops : List ℕ) → Unkept (refusedMany o) (courseOf o count records ops)
 records-refused o count many records ops =
     many-refused o count many (column Record.name records) (column Record.verdict records) (column Record.rank records) (alignmentsOf records ops)
 
@@ -65,8 +65,8 @@ selects-many o count many some others ops s selects =
     let other = records-refused o count many others ops in
     record {
       decision = selects .decision ∙ own .ends ∙ sym (other .ends);
-      r1 = selects .r1 ∙ unmarked (outcomeOf o count some ops .r1) (outcomeOf o count others ops .r1) (length some) (length others) (own .no-r1) (other .no-r1);
-      r2 = selects .r2 ∙ unmarked (outcomeOf o count some ops .r2) (outcomeOf o count others ops .r2) (length some) (length others) (own .no-r2) (other .no-r2);
+      r1 = selects .r1 ∙ unmarked (courseOf o count some ops .r1) (courseOf o count others ops .r1) (length some) (length others) (own .no-r1) (other .no-r1);
+      r2 = selects .r2 ∙ unmarked (courseOf o count some ops .r2) (courseOf o count others ops .r2) (length some) (length others) (own .no-r2) (other .no-r2);
     }
   where
     unmarked : (xs ys : List ℕ) (m n : ℕ) → xs ≡ [] → ys ≡ [] → marks (sideFlags xs m) ≡ marks (sideFlags ys n)
@@ -77,8 +77,8 @@ pub of-records : (o : Options) (count : ℕ) (records : List Record) (ops : List
     {flags names : List ℕ} {verdicts : List Bool} {ranks : List ℤ} {clipped positions starts counts : List ℕ}
     → flags ≡ column Record.flags records → names ≡ column Record.name records → verdicts ≡ column Record.verdict records → ranks ≡ column Record.rank records
     → clipped ≡ column Record.clipped records → positions ≡ column Record.position records → starts ≡ column Record.start records → counts ≡ column Record.count records
-    → OutcomeIn (selected o count names verdicts ranks (alignments flags clipped positions starts counts ops)) sides fates r1 r2
-    → OutcomeIn (outcomeOf o count records ops) sides fates r1 r2
+    → CourseIn (selected o count names verdicts ranks (alignments flags clipped positions starts counts ops)) sides fates r1 r2
+    → CourseIn (courseOf o count records ops) sides fates r1 r2
 of-records o count records ops sides fates r1 r2 a b c d e f g h given = rw (a, b, c, d, e, f, g, h) at given
 
 -- the sides as mark words
@@ -106,7 +106,7 @@ selects-room o count table ops n s e selects = by (ltb 512 count) refl e
 -- every list of records that the table holds; of too many, any list
 pub into-records : (o : Options) (count : ℕ) (table : List Record) (ops : List ℕ) (n : ℕ) (sides : Sides) (fates r1 r2 : List ℕ)
     → n ≡ cond (ltb 512 count) 0 count
-    → OutcomeIn (outcomeOf o count (take n table) ops) sides fates r1 r2
+    → CourseIn (courseOf o count (take n table) ops) sides fates r1 r2
     → (records : List Record) → (count ≤ 512 → take count table ≡ records) → SelectsInto o count records ops sides fates r1 r2
 into-records o count table ops n sides fates r1 r2 e given records holds = by (ltb 512 count) refl e
   where
@@ -123,5 +123,5 @@ into-records o count table ops n sides fates r1 r2 e given records holds = by (l
         }
     by false test f =
         let same : take n table ≡ records = ap (λ (k : ℕ). take k table) f ∙ holds (ltb-false 512 count test) in
-        let own : OutcomeIn (outcomeOf o count records ops) sides fates r1 r2 = rw same at given in
+        let own : CourseIn (courseOf o count records ops) sides fates r1 r2 = rw same at given in
         record { decision = own .decision; fates-are = λ few. own .fates-are; r1-fills = own .r1-fills; r2-fills = own .r2-fills }

@@ -19,9 +19,9 @@ use Rattle.codec_pairing.specs.Pairing.{sideR1, sideR2}
 use Rattle.codec_pairing.specs.Refusals.{Alike, reads}
 use Rattle.codec_select.specs.Alignments.{Alignments, alignmentOf, alignmentsOf, Formed}
 use Rattle.codec_select.specs.Records.{column}
-use Rattle.codec_select.specs.Selection.{outcomeOf}
+use Rattle.codec_select.specs.Selection.{courseOf}
 use Rattle.codec_select.specs.Side.{most, placeOf, placeOfMost, longestOf, referenceBasesOf}
-use Rattle.codec_select.specs.Steps.{Outcome, tooFew, capIsZero, grouped, capped, longestRecord, isNegative, decisionOf, overlapping, fromWindow, fromCap, fromSides, fatesOf, refusalOf, selected}
+use Rattle.codec_select.specs.Steps.{Course, tooFew, capIsZero, grouped, capped, longestRecord, isNegative, decisionOf, overlapping, fromWindow, fromCap, fromSides, fatesOf, refusalOf, selected}
 use Rattle.codec_select.specs.declared.options.Options.{Options}
 use Rattle.codec_select.specs.declared.records.Record.{Record}
 use Rattle.codec_select.specs.declared.selection.Decision.{Decision}
@@ -91,7 +91,7 @@ module _ (o : Options) (ranks : List ℤ) (a : Alignments) where
   cap-measured : (r1 r2 fates : List ℕ) → Formed a r1 → Formed a r2 → Measured (fromCap o ranks a r1 r2 fates .decision)
   unfolding fromCap
   cap-measured r1 r2 fates f1 f2 =
-      cond-cases (λ (out : Outcome). Measured (out .decision)) (tooFew o r1 || tooFew o r2 || capIsZero o) (λ _. tt)
+      cond-cases (λ (out : Course). Measured (out .decision)) (tooFew o r1 || tooFew o r2 || capIsZero o) (λ _. tt)
       (λ e.
       let none = or-neither (tooFew o r1 || tooFew o r2) (capIsZero o) e .1 in
       window-measured (capped o ranks r1) (capped o ranks r2) _ (capped-formed a r1 o ranks none f1) (capped-formed a r2 o ranks none f2))
@@ -99,10 +99,10 @@ module _ (o : Options) (ranks : List ℤ) (a : Alignments) where
   sides-measured : (r1 r2 fates : List ℕ) → (0 < length r1 → Formed a r1 × Formed a r2) → Measured (fromSides o ranks a r1 r2 fates .decision)
   unfolding fromSides
   sides-measured r1 r2 fates formed =
-      cond-cases (λ (out : Outcome). Measured (out .decision)) (eqb (length r1) 0) (λ _. tt)
+      cond-cases (λ (out : Course). Measured (out .decision)) (eqb (length r1) 0) (λ _. tt)
       (λ e.
       let both = formed (omega (arith, eqb-false (length r1) 0 e)) in
-      cond-cases (λ (out : Outcome). Measured (out .decision)) (tooFew o r1) (λ _. tt)
+      cond-cases (λ (out : Course). Measured (out .decision)) (tooFew o r1) (λ _. tt)
       (λ _. cap-measured (grouped a r1) (grouped a r2) _ (grouped-formed a r1 (both .0)) (grouped-formed a r2 (both .1))))
 
 -- the columns of some records are equally long
@@ -123,7 +123,7 @@ module _ (o : Options) (records : List Record) (ops : List ℕ) (none : refusalO
       let fates = fatesOf (column Record.flags records) (column Record.name records) (column Record.verdict records) in
       within-limits (o .«min_duplex_length») (length records) (reads fates (a .clipped) (a .positions) (a .starts) (a .counts) (a .ops)) none .1
 
-  pub selection-measured : Measured (outcomeOf o (length records) records ops .decision)
+  pub selection-measured : Measured (courseOf o (length records) records ops .decision)
   unfolding selected
   selection-measured =
       let flags = column Record.flags records in

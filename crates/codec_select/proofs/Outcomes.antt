@@ -14,9 +14,9 @@ use Rattle.caller.specs.declared.refusal.Refusal.{Refusal}
 use Rattle.caller.specs.declared.refusal.Refusal.the-variants.{NoRefusal, Refused}
 use Rattle.codec_select.specs.Alignments.{Alignments, alignmentsOf}
 use Rattle.codec_select.specs.Records.{column}
-use Rattle.codec_select.specs.Selection.{outcomeOf}
+use Rattle.codec_select.specs.Selection.{courseOf}
 use Rattle.codec_select.specs.Side.{Below, underCap}
-use Rattle.codec_select.specs.Steps.{Outcome, tooFew, isInGroup, capIsZero, capped, overlapping, isKept, fromWindow, fromCap, fromSides, unlessRefused, fatesOf, refusalOf, selected}
+use Rattle.codec_select.specs.Steps.{Course, tooFew, isInGroup, capIsZero, capped, overlapping, isKept, fromWindow, fromCap, fromSides, unlessRefused, fatesOf, refusalOf, selected}
 use Rattle.codec_select.specs.declared.options.Options.{Options}
 use Rattle.codec_select.specs.declared.records.Record.{Record}
 use Rattle.codec_select.proofs.Keeping.{kept-each}
@@ -25,7 +25,7 @@ module _ (P : ℕ → Type 0) where
   abbrev pub Each : List ℕ → Type 0
   Each side = (k : ℕ) → k < length side → P (getD side k 0)
 
-  abbrev pub Both : Outcome → Type 0
+  abbrev pub Both : Course → Type 0
   Both outcome = Each (outcome .r1) × Each (outcome .r2)
 
   none-each : Each []
@@ -58,7 +58,7 @@ module _ (P : ℕ → Type 0) where
           (λ _. cond-cases Both (tooFew o r1) (λ _. (none-each, none-each))
           (λ _. cap-each _ _ _ (kept-each P r1 (isInGroup a r1) holds1) (kept-each P r2 (isInGroup a r2) holds2)))
 
-  unless-each : (refusal : Refusal) (fates : List ℕ) (outcome : Outcome) → Both outcome → Both (unlessRefused refusal fates outcome)
+  unless-each : (refusal : Refusal) (fates : List ℕ) (outcome : Course) → Both outcome → Both (unlessRefused refusal fates outcome)
   unless-each NoRefusal fates outcome holds = holds
   unless-each (Refused number given) fates outcome holds = (none-each, none-each)
 
@@ -78,7 +78,7 @@ module _ (o : Options) (count : ℕ) (names : List ℕ) (verdicts : List Bool) (
   outcome-below = (λ k h. outcome-entered .0 k h .0, λ k h. outcome-entered .1 k h .0)
 
 -- each is one of the n records
-pub records-below : (o : Options) (count : ℕ) (records : List Record) (ops : List ℕ) (n : ℕ) → n ≡ length records → Below (outcomeOf o count records ops .r1) n × Below (outcomeOf o count records ops .r2) n
+pub records-below : (o : Options) (count : ℕ) (records : List Record) (ops : List ℕ) (n : ℕ) → n ≡ length records → Below (courseOf o count records ops .r1) n × Below (courseOf o count records ops .r2) n
 records-below o count records ops n size =
     rw (size ∙ sym (length-map records Record.flags))
     (outcome-below o count (column Record.name records) (column Record.verdict records) (column Record.rank records) (alignmentsOf records ops))

@@ -23,9 +23,9 @@ use Rattle.codec_pairing.proofs.Entered.{entered-in}
 use Rattle.codec_pairing.proofs.Undecided.{undecided-entered}
 use Rattle.codec_select.specs.Alignments.{Alignments, alignmentOf, alignmentsOf}
 use Rattle.codec_select.specs.Records.{column}
-use Rattle.codec_select.specs.Selection.{outcomeOf}
+use Rattle.codec_select.specs.Selection.{courseOf}
 use Rattle.codec_select.specs.Side.{givenFate, underCap, dropped}
-use Rattle.codec_select.specs.Steps.{Outcome, tooFew, capIsZero, isInGroup, withMinority, withExcess, grouped, capped, longestRecord, isNegative, decisionOf, overlapping, fromWindow, fromCap, fromSides, fatesOf, refusalOf, selected}
+use Rattle.codec_select.specs.Steps.{Course, tooFew, capIsZero, isInGroup, withMinority, withExcess, grouped, capped, longestRecord, isNegative, decisionOf, overlapping, fromWindow, fromCap, fromSides, fatesOf, refusalOf, selected}
 use Rattle.codec_select.specs.declared.options.Options.{Options}
 use Rattle.codec_select.specs.declared.records.Record.{Record}
 use Rattle.codec_select.specs.declared.selection.Decision.{Decision}
@@ -43,7 +43,7 @@ Ends decisions.Empty n fates = (i : ℕ) → i < n → 1 ≤ getD fates i 0
 Ends (decisions.Rejected reason) n fates = Unit {0}
 Ends (decisions.Refused number given) n fates = ⊥
 
-pub record Settled (n : ℕ) (outcome : Outcome) : Type 0 where
+pub record Settled (n : ℕ) (outcome : Course) : Type 0 where
   pub so-far : SoFar n (outcome .fates)
   pub ends : Ends (outcome .decision) n (outcome .fates)
 
@@ -126,7 +126,7 @@ module _ (o : Options) (ranks : List ℤ) (a : Alignments) (n : ℕ) where
 -- each record has a fate of at most 11, and an empty family leaves none undecided
 pub selection-settled : (o : Options) (count : ℕ) (records : List Record) (ops : List ℕ)
     → refusalOf o count (fatesOf (column Record.flags records) (column Record.name records) (column Record.verdict records)) (alignmentsOf records ops) ≡ NoRefusal
-    → Settled (length records) (outcomeOf o count records ops)
+    → Settled (length records) (courseOf o count records ops)
 unfolding selected
 selection-settled o count records ops none =
     let flags = column Record.flags records in

@@ -13,7 +13,7 @@ abbrev pub blank : Record
 blank = record { flags = 0; name = 0; verdict = false; rank = pos 0; clipped = 0; position = 0; start = 0; count = 0 }
 
 -- columns with room for n records
-pub record Room (n : ℕ) (flags names : List ℕ) (verdicts : List Bool) (ranks : List ℤ) (clipped positions starts counts : List ℕ) : Type 0 where
+pub record ColumnsRoom (n : ℕ) (flags names : List ℕ) (verdicts : List Bool) (ranks : List ℤ) (clipped positions starts counts : List ℕ) : Type 0 where
   pub flags-room : n ≤ length flags
   pub names-room : n ≤ length names
   pub verdicts-room : n ≤ length verdicts

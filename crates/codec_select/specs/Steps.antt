@@ -26,14 +26,14 @@ use Rattle.codec_window.specs.declared.window.Overlap.{Overlap}
 use Rattle.codec_window.specs.declared.window.Overlap.the-variants as overlaps
 
 -- what the steps make of a family: how they end, the records of each side that stay where it is kept, and the fate of each record so far
-pub record Outcome : Type 0 where
+pub record Course : Type 0 where
   pub decision : Decision
   pub r1 : List ℕ
   pub r2 : List ℕ
   pub fates : List ℕ
 
 -- a family that ends here: nothing is kept
-abbrev pub ended : Decision → List ℕ → Outcome
+abbrev pub ended : Decision → List ℕ → Course
 ended decision fates = record { decision = decision; r1 = []; r2 = []; fates = fates }
 
 abbrev pub tooFew : Options → List ℕ → Bool
@@ -101,28 +101,28 @@ isKept (decisions.Rejected reason) = false
 isKept (decisions.Refused number given) = false
 
 -- a family that is kept keeps the records of its sides, any other none
-abbrev pub concluded : Decision → List ℕ → List ℕ → List ℕ → Outcome
+abbrev pub concluded : Decision → List ℕ → List ℕ → List ℕ → Course
 concluded decision r1 r2 fates = record { decision = decision; r1 = cond (isKept decision) r1 []; r2 = cond (isKept decision) r2 []; fates = fates }
 
 -- steps 6 and 7, of the sides that step 5 leaves
-unfoldable pub fromWindow : Options → Alignments → List ℕ → List ℕ → List ℕ → Outcome
+unfoldable pub fromWindow : Options → Alignments → List ℕ → List ℕ → List ℕ → Course
 fromWindow o a r1 r2 fates = concluded (overlapping o a r1 r2) r1 r2 fates
 
 -- the end of step 4, of both sides, and step 5
-unfoldable pub fromCap : Options → List ℤ → Alignments → List ℕ → List ℕ → List ℕ → Outcome
+unfoldable pub fromCap : Options → List ℤ → Alignments → List ℕ → List ℕ → List ℕ → Course
 fromCap o ranks a r1 r2 fates =
     cond (tooFew o r1 || tooFew o r2 || capIsZero o) (ended (decisions.Rejected InsufficientReads) fates)
     (fromWindow o a (capped o ranks r1) (capped o ranks r2) (withExcess o ranks r2 (withExcess o ranks r1 fates)))
 
 -- steps 3 and 4, of the sides that step 2 enters
-unfoldable pub fromSides : Options → List ℤ → Alignments → List ℕ → List ℕ → List ℕ → Outcome
+unfoldable pub fromSides : Options → List ℤ → Alignments → List ℕ → List ℕ → List ℕ → Course
 fromSides o ranks a r1 r2 fates =
     cond (eqb (length r1) 0) (ended decisions.Empty fates)
     (cond (tooFew o r1) (ended (decisions.Rejected InsufficientReads) fates)
     (fromCap o ranks a (grouped a r1) (grouped a r2) (withMinority a r2 (withMinority a r1 fates))))
 
 -- a refusal comes before all steps
-abbrev pub unlessRefused : Refusal → List ℕ → Outcome → Outcome
+abbrev pub unlessRefused : Refusal → List ℕ → Course → Course
 unlessRefused refusals.NoRefusal fates outcome = outcome
 unlessRefused (refusals.Refused number given) fates outcome = ended (decisions.Refused number given) fates
 
@@ -136,7 +136,7 @@ refusalOf o records fates a =
     firstRefusal (o .«min_duplex_length») records (reads fates (a .clipped) (a .positions) (a .starts) (a .counts) (a .ops))
 
 -- steps 1 to 7 of a family, given by how many records it has and by their columns
-unfoldable pub selected : Options → ℕ → List ℕ → List Bool → List ℤ → Alignments → Outcome
+unfoldable pub selected : Options → ℕ → List ℕ → List Bool → List ℤ → Alignments → Course
 selected o records names verdicts ranks a =
     unlessRefused (refusalOf o records (fatesOf (a .flags) names verdicts) a) (fatesOf (a .flags) names verdicts)
     (fromSides o ranks a (sideR1 (a .flags) names verdicts) (sideR2 (a .flags) names verdicts) (fatesOf (a .flags) names verdicts))
@@ -147,7 +147,7 @@ pub record Fills (xs : List ℕ) (n : ℕ) (column : List ℕ) : Type 0 where
   pub front : take n column ≡ xs
 
 -- an outcome: the decision, the fates, and each side in the first places of a column
-pub record OutcomeIn (outcome : Outcome) (sides : Sides) (fates r1 r2 : List ℕ) : Type 0 where
+pub record CourseIn (outcome : Course) (sides : Sides) (fates r1 r2 : List ℕ) : Type 0 where
   pub decision : sides .decision ≡ outcome .decision
   pub fates-are : fates ≡ outcome .fates
   pub r1-fills : Fills (outcome .r1) (sides .r1) r1

@@ -2,7 +2,7 @@
 use crate::records::Record;
 ghost use Prim.Native.Nat.{_≤_};
 ghost use lib.ListN.{take};
-ghost use Rattle.codec_select.specs.Records.{Room, TakenApart};
+ghost use Rattle.codec_select.specs.Records.{ColumnsRoom, TakenApart};
 
 // Writes each field of the first n records of a table into a column of its own.
 pub fn take_apart(
@@ -18,7 +18,7 @@ pub fn take_apart(
     counts: &mut [u32],
 )
     requires { ⌜ n ≤ 512 ⌝ }
-    requires { ⌜ Room n (now flags) (now names) (now verdicts) (now ranks) (now clipped) (now positions) (now starts) (now counts) ⌝ }
+    requires { ⌜ ColumnsRoom n (now flags) (now names) (now verdicts) (now ranks) (now clipped) (now positions) (now starts) (now counts) ⌝ }
     ensures { λ _. ⌜
         TakenApart (take n table)
         (now (flags .entry)) (now (names .entry)) (now (verdicts .entry)) (now (ranks .entry)) (now (clipped .entry)) (now (positions .entry)) (now (starts .entry)) (now (counts .entry))

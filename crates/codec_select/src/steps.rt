@@ -18,7 +18,7 @@ ghost use lib.ListN.{length, take};
 ghost use Rattle.codec_select.specs.Alignments.{alignments, Sided, EnteredAdmissible};
 ghost use Rattle.codec_pairing.specs.Pairing.{Columns, sideR1, sideR2};
 ghost use Rattle.codec_pairing.specs.Refusals.{Alike};
-ghost use Rattle.codec_select.specs.Steps.{OutcomeIn, capIsZero, isKept, fromCap, fromSides, selected};
+ghost use Rattle.codec_select.specs.Steps.{CourseIn, capIsZero, isKept, fromCap, fromSides, selected};
 
 // A family that ends without a duplex keeps no record.
 fn end(decision: Decision) -> Sides
@@ -94,7 +94,7 @@ fn from_cap(
     requires { ⌜ Sided (alignments (now flags) (now clipped) (now positions) (now starts) (now counts) (now ops)) (now ranks) (now fates) (now r2) n2 ⌝ }
     requires { ⌜ options .«min_duplex_length» < 2 ^ 31 ⌝ }
     ensures { λ r. ⌜
-        OutcomeIn (fromCap options (now (ranks .entry)) (alignments (now (flags .entry)) (now (clipped .entry)) (now (positions .entry)) (now (starts .entry)) (now (counts .entry)) (now (ops .entry))) (take n1 (now (r1 .entry))) (take n2 (now (r2 .entry))) (now (fates .entry)))
+        CourseIn (fromCap options (now (ranks .entry)) (alignments (now (flags .entry)) (now (clipped .entry)) (now (positions .entry)) (now (starts .entry)) (now (counts .entry)) (now (ops .entry))) (take n1 (now (r1 .entry))) (take n2 (now (r2 .entry))) (now (fates .entry)))
         r (now (fates .exit)) (now (r1 .exit)) (now (r2 .exit))
         ⌝ }
 {
@@ -139,7 +139,7 @@ fn from_sides(
     requires { ⌜ (options .«min_duplex_length» < 2 ^ 31) × (length (now flags) ≤ 512) ⌝ }
     requires { ⌜ (256 ≤ length (now r1)) × (256 ≤ length (now r2)) ⌝ }
     ensures { λ r. ⌜
-        OutcomeIn (fromSides options (now (ranks .entry)) (alignments (now (flags .entry)) (now (clipped .entry)) (now (positions .entry)) (now (starts .entry)) (now (counts .entry)) (now (ops .entry))) (sideR1 (now (flags .entry)) (now (names .entry)) (now (verdicts .entry))) (sideR2 (now (flags .entry)) (now (names .entry)) (now (verdicts .entry))) (now (fates .entry)))
+        CourseIn (fromSides options (now (ranks .entry)) (alignments (now (flags .entry)) (now (clipped .entry)) (now (positions .entry)) (now (starts .entry)) (now (counts .entry)) (now (ops .entry))) (sideR1 (now (flags .entry)) (now (names .entry)) (now (verdicts .entry))) (sideR2 (now (flags .entry)) (now (names .entry)) (now (verdicts .entry))) (now (fates .entry)))
         r (now (fates .exit)) (now (r1 .exit)) (now (r2 .exit))
         ⌝ }
 {
@@ -191,7 +191,7 @@ pub fn select_columns(
     requires { ⌜ (length (now ranks) ≡ length (now flags)) × (length (now fates) ≡ length (now flags)) × (length (now flags) ≤ 512) ⌝ }
     requires { ⌜ (256 ≤ length (now r1)) × (256 ≤ length (now r2)) ⌝ }
     ensures { λ r. ⌜
-        OutcomeIn (selected options records (now (names .entry)) (now (verdicts .entry)) (now (ranks .entry)) (alignments (now (flags .entry)) (now (clipped .entry)) (now (positions .entry)) (now (starts .entry)) (now (counts .entry)) (now (ops .entry))))
+        CourseIn (selected options records (now (names .entry)) (now (verdicts .entry)) (now (ranks .entry)) (alignments (now (flags .entry)) (now (clipped .entry)) (now (positions .entry)) (now (starts .entry)) (now (counts .entry)) (now (ops .entry))))
         r (now (fates .exit)) (now (r1 .exit)) (now (r2 .exit))
         ⌝ }
 {

@@ -14,7 +14,7 @@ use Rattle.lists.proofs.Tabulate.{length-tabulate}
 use Rattle.lists.proofs.Written.{take-written, written-again}
 use Rattle.codec_duplex.specs.Columns.{Strand, strand}
 use Rattle.codec_strands.specs.Masks.{outermost, maskedAt, masked}
-use Rattle.codec_strands.specs.Strands.{complement, reverseComplement, padded, firstPlaces, writtenStrand, Room}
+use Rattle.codec_strands.specs.Strands.{complement, reverseComplement, padded, firstPlaces, writtenStrand, StrandRoom}
 use Rattle.codec_strands.specs.declared.mask.Masks.{Masks}
 use Rattle.codec_strands.proofs.Complement.{complement-twice}
 
@@ -46,7 +46,7 @@ reversed-then-complemented n old mid after room first second =
 written-take : {A : Type 0} (n : ℕ) (xs : List A) → n ≤ length xs → xs ≡ written (take n xs) xs
 written-take n xs h = rw (length-take-le n xs h) (sym (take-append-drop n xs))
 
-pub written-first : (n : ℕ) (s : Strand) → Room n s → s ≡ writtenStrand (firstPlaces n s) s
+pub written-first : (n : ℕ) (s : Strand) → StrandRoom n s → s ≡ writtenStrand (firstPlaces n s) s
 written-first n s room =
     same-columns
     (written-take n (s .bases) (room .bases))

@@ -56,7 +56,7 @@ pub record Within (n : ℕ) (s : Strand) : Type 0 where
   pub errors : length (s .errors) ≤ n
 
 -- no column has less than n places
-pub record Room (n : ℕ) (s : Strand) : Type 0 where
+pub record StrandRoom (n : ℕ) (s : Strand) : Type 0 where
   pub bases : n ≤ length (s .bases)
   pub quals : n ≤ length (s .quals)
   pub depths : n ≤ length (s .depths)

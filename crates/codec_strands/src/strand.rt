@@ -7,7 +7,7 @@ ghost use Prim.Native.Nat.{_+_, _-_, _≤_, _<_};
 ghost use lib.ListN.{length, replicate};
 ghost use Rattle.lists.specs.Written.{written};
 ghost use Rattle.codec_duplex.specs.Columns.{strand};
-ghost use Rattle.codec_strands.specs.Strands.{complement, turned, turnedBases, oriented, padded, paddedStrand, writtenStrand, Within, Room};
+ghost use Rattle.codec_strands.specs.Strands.{complement, turned, turnedBases, oriented, padded, paddedStrand, writtenStrand, Within, StrandRoom};
 
 // Chosen with no branch, since bases are hard to foresee.
 pub fn complement_base(base: u8) -> u8
@@ -149,7 +149,7 @@ pub fn pad_consensus(
 )
     requires { ⌜
         Within n (strand (now bases) (now quals) (now depths) (now errors))
-        × Room n (strand (now «out_bases») (now «out_quals») (now «out_depths») (now «out_errors»))
+        × StrandRoom n (strand (now «out_bases») (now «out_quals») (now «out_depths») (now «out_errors»))
         ⌝ }
     ensures { λ _. ⌜
         strand (now («out_bases» .exit)) (now («out_quals» .exit)) (now («out_depths» .exit)) (now («out_errors» .exit))

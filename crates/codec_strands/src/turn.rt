@@ -6,7 +6,7 @@ ghost use Prim.Native.Nat.{_≤_};
 ghost use lib.ListN.{length, take};
 ghost use Rattle.lists.specs.Written.{written};
 ghost use Rattle.codec_duplex.specs.Columns.{strand};
-ghost use Rattle.codec_strands.specs.Strands.{complement, oriented, reverseComplement, firstPlaces, writtenStrand, Room};
+ghost use Rattle.codec_strands.specs.Strands.{complement, oriented, reverseComplement, firstPlaces, writtenStrand, StrandRoom};
 
 pub fn reverse_bytes(column: &mut [u8], n: usize)
     requires { ⌜ n ≤ length (now column) ⌝ }
@@ -57,7 +57,7 @@ pub fn reverse_complement_ss(
     errors: &mut [u16],
     n: usize,
 )
-    requires { ⌜ Room n (strand (now bases) (now quals) (now depths) (now errors)) ⌝ }
+    requires { ⌜ StrandRoom n (strand (now bases) (now quals) (now depths) (now errors)) ⌝ }
     ensures { λ _. ⌜
         strand (now (bases .exit)) (now (quals .exit)) (now (depths .exit)) (now (errors .exit))
         ≡ writtenStrand
@@ -80,7 +80,7 @@ pub fn reverse_complement_if(
     errors: &mut [u16],
     n: usize,
 )
-    requires { ⌜ Room n (strand (now bases) (now quals) (now depths) (now errors)) ⌝ }
+    requires { ⌜ StrandRoom n (strand (now bases) (now quals) (now depths) (now errors)) ⌝ }
     ensures { λ _. ⌜
         strand (now (bases .exit)) (now (quals .exit)) (now (depths .exit)) (now (errors .exit))
         ≡ writtenStrand

@@ -13,7 +13,7 @@ use Rattle.table_text.specs.Fields.{Read, read, malformed, andThen, fieldsOf}
 use Rattle.table_text.specs.declared.decimal.Number.the-variants as numbers
 use Rattle.table_text.specs.declared.decimal.Number.{Number}
 use Rattle.family_text.specs.Fit.{Fit, Fitting}
-use Rattle.family_text.specs.Line.{inFront, valuesOf, column, lineOf, tagField}
+use Rattle.family_text.specs.Line.{inFront, valuesOf, valuesPlaced, lineOf, tagField}
 use Rattle.family_text.specs.Value.{none, plainly, negated, below, afterDash, fieldValue, valueThen, valueField}
 use Rattle.family_text.specs.declared.value.FieldValue.the-variants.{Found, Malformed}
 use Rattle.family_text.specs.declared.value.FieldValue.{FieldValue}
@@ -106,7 +106,7 @@ fit-values (kind ∷ kinds) (limit ∷ limits) (field ∷ fields) vs rest e = fi
     first after Malformed p f = absurd (no-value vs rest f)
 
 module _ (kinds limits : List ℕ) where
-  fit-column : (r : Read (List Value)) → ((vs : List Value) (rest : List (List ℕ)) → r ≡ read vs rest → Fitted kinds limits vs) → column r .«well_formed» ≡ true → Fitting kinds limits (column r .values)
+  fit-column : (r : Read (List Value)) → ((vs : List Value) (rest : List (List ℕ)) → r ≡ read vs rest → Fitted kinds limits vs) → valuesPlaced r .«well_formed» ≡ true → Fitting kinds limits (valuesPlaced r .values)
   fit-column (read vs []) fitted e k h =
       let known = fitted vs [] refl in
       rw (List·getD-append vs _ none k (omega (arith, known .size))) (known .each k h)
@@ -117,6 +117,6 @@ module _ (kinds limits : List ℕ) where
   unfolding lineOf
   fit-line tag line = go (tagField tag (fieldsOf line))
     where
-      go : (t : Read ℕ) → column (andThen t (λ b rest. valuesOf kinds limits rest)) .«well_formed» ≡ true → Fitting kinds limits (column (andThen t (λ b rest. valuesOf kinds limits rest)) .values)
+      go : (t : Read ℕ) → valuesPlaced (andThen t (λ b rest. valuesOf kinds limits rest)) .«well_formed» ≡ true → Fitting kinds limits (valuesPlaced (andThen t (λ b rest. valuesOf kinds limits rest)) .values)
       go (read b rest) = fit-column (valuesOf kinds limits rest) (λ vs after. fit-values kinds limits rest vs after)
       go malformed = fit-column malformed (λ vs rest e. absurd (no-value vs rest e))

@@ -9,13 +9,13 @@ use Rattle.family_text.specs.Value.{none}
 use Rattle.family_text.specs.declared.value.Value.{Value}
 
 -- up to the limit, or below 0 down to one beyond it
-abbrev pub Within : Bool → ℕ → ℕ → Type 0
-Within true limit magnitude = (1 ≤ magnitude) × (magnitude ≤ limit + 1)
-Within false limit magnitude = magnitude ≤ limit
+abbrev pub InLimit : Bool → ℕ → ℕ → Type 0
+InLimit true limit magnitude = (1 ≤ magnitude) × (magnitude ≤ limit + 1)
+InLimit false limit magnitude = magnitude ≤ limit
 
 -- a value that a field of this kind and limit can have
 pub record Fit (kind limit : ℕ) (v : Value) : Type 0 where
-  pub within : Within (v .negative) limit (v .magnitude)
+  pub within : InLimit (v .negative) limit (v .magnitude)
   pub unsigned : (kind ≡ code "s" → ⊥) → v .magnitude ≤ limit
 
 -- the values in a column's first places fit their layout

@@ -36,10 +36,10 @@ valuesOf (kind ∷ kinds) [] fields = malformed
 valuesOf (kind ∷ kinds) (limit ∷ limits) fields = andThen (valueField kind limit fields) λ v rest. inFront (v ∷ []) (valuesOf kinds limits rest)
 
 -- the values in the first places of a column; nothing stands after them
-abbrev pub column : Read (List Value) → Values
-column (read vs []) = record { «well_formed» = true; values = written vs (replicate 20 none) }
-column (read vs (field ∷ more)) = record { «well_formed» = false; values = replicate 20 none }
-column malformed = record { «well_formed» = false; values = replicate 20 none }
+abbrev pub valuesPlaced : Read (List Value) → Values
+valuesPlaced (read vs []) = record { «well_formed» = true; values = written vs (replicate 20 none) }
+valuesPlaced (read vs (field ∷ more)) = record { «well_formed» = false; values = replicate 20 none }
+valuesPlaced malformed = record { «well_formed» = false; values = replicate 20 none }
 
 -- a line that is malformed
 abbrev pub noValues : Read (List Value)
@@ -47,4 +47,4 @@ noValues = malformed
 
 -- a line with this tag, by its layout
 unfoldable pub lineOf : ℕ → List ℕ → List ℕ → List ℕ → Values
-lineOf tag kinds limits line = column (andThen (tagField tag (fieldsOf line)) λ b rest. valuesOf kinds limits rest)
+lineOf tag kinds limits line = valuesPlaced (andThen (tagField tag (fieldsOf line)) λ b rest. valuesOf kinds limits rest)

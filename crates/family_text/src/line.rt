@@ -7,7 +7,7 @@ ghost use mathlib.Core.Path.{_≡_};
 ghost use Prim.Native.Nat.{_≤_};
 ghost use lib.ListN.{length};
 ghost use Rattle.table_text.specs.Fields.{fieldsFrom, fieldsOf};
-ghost use Rattle.family_text.specs.Line.{tagField, tagIn, valuesOf, column, noValues, lineOf};
+ghost use Rattle.family_text.specs.Line.{tagField, tagIn, valuesOf, valuesPlaced, noValues, lineOf};
 
 // No line has more fields behind its tag than the ledger's.
 pub const FIELDS: usize = 20;
@@ -40,7 +40,7 @@ pub fn read_tag(line: &[u8], tag: u8) -> Tag
 }
 
 fn malformed() -> Values
-    ensures { λ r. ⌜ r ≡ column noValues ⌝ }
+    ensures { λ r. ⌜ r ≡ valuesPlaced noValues ⌝ }
 {
     let none = Value {
         present: false,
@@ -56,7 +56,7 @@ fn malformed() -> Values
 // The fields from a place on, one for each kind and limit, and none after them.
 fn read_fields(line: &[u8], start: usize, kinds: &[u8], limits: &[u64]) -> Values
     requires { ⌜ (length (now kinds) ≡ length (now limits)) × (length (now kinds) ≤ 20) ⌝ }
-    ensures { λ r. ⌜ r ≡ column (valuesOf (now (kinds .entry)) (now (limits .entry)) (fieldsFrom (now (line .entry)) start)) ⌝ }
+    ensures { λ r. ⌜ r ≡ valuesPlaced (valuesOf (now (kinds .entry)) (now (limits .entry)) (fieldsFrom (now (line .entry)) start)) ⌝ }
 {
     let mut found = malformed();
     let mut at = start;

@@ -3,7 +3,7 @@ use crate::line;
 use crate::value::Value;
 use codec_select::records::Record;
 ghost use mathlib.Core.Path.{_≡_};
-ghost use Rattle.family_text.specs.Fit.{Within, Fitting};
+ghost use Rattle.family_text.specs.Fit.{InLimit, Fitting};
 ghost use Rattle.family_text.specs.Record.{recordKinds, recordLimits, integerOf, recordFrom, recordOf};
 
 pub enum RecordLine {
@@ -12,7 +12,7 @@ pub enum RecordLine {
 }
 
 fn integer(value: Value) -> i32
-    requires { ⌜ Within (value .negative) 2147483647 (value .magnitude) ⌝ }
+    requires { ⌜ InLimit (value .negative) 2147483647 (value .magnitude) ⌝ }
     ensures { λ r. ⌜ r ≡ integerOf value ⌝ }
 {
     let magnitude = value.magnitude;

@@ -3,7 +3,6 @@ use mathlib.Core.Bool.{Bool, true, false, cond, not}
 use mathlib.Core.Logic.{⊎-elim}
 use mathlib.Core.Path.{_≡_, refl, sym, ap}
 use Prim.Native.Nat.{ℕ, zero, suc, _+_, _≤_, _<_, zero-le, suc-le-suc}
-use native.Mathlib.Decide.{ℕ-discrete}
 use native.Mathlib.Nat.{eq-or-lt-of-le, le-of-suc-le-suc}
 use native.Mathlib.Numerals.{add-one}
 use native.Mathlib.Omega.{arith}
@@ -94,19 +93,3 @@ count-into test other f (suc m) n sent apart = go (test m) refl (λ left sent. c
         (t .0, rw (ne-eqb (f i) (f m) (λ same. let last : i ≡ m = apart i m (omega arith) (omega arith) meets e same in omega arith)) (t .1))) in
         omega (arith, count-without other (f m) n (own .0) (own .1))
     go false e fewer = fewer other (λ i below. sent i (omega arith))
-
--- a test that no number below n meets
-pub count-never : (test : ℕ → Bool) (n : ℕ) → ((k : ℕ) → k < n → test k ≡ false) → countBelow test n ≡ 0
-unfolding countBelow
-count-never test zero never = refl
-count-never test (suc n) never = rw (never n (omega arith)) (count-never test n (λ k h. never k (omega arith)))
-
--- a test that one number alone can meet
-pub count-alone : (test : ℕ → Bool) (i n : ℕ) → i < n → ((k : ℕ) → k < n → (k ≡ i → ⊥) → test k ≡ false) → countBelow test n ≡ cond (test i) 1 0
-unfolding countBelow
-count-alone test i zero h others = absurd (omega arith)
-count-alone test i (suc n) h others = go (ℕ-discrete n i) (λ below. count-alone test i n below (λ k l. others k (omega arith)))
-  where
-    go : Dec (n ≡ i) → (i < n → countBelow test n ≡ cond (test i) 1 0) → cond (test n) (suc (countBelow test n)) (countBelow test n) ≡ cond (test i) 1 0
-    go (yes e) rest = rw (count-never test n (λ k l. others k (omega arith) (λ f. omega arith)), ← e)
-    go (no differ) rest = rw (others n (omega arith) differ) (rest (omega (arith, differ)))

@@ -12,7 +12,6 @@ use lib.Dec.{eqb, leb, ltb}
 use lib.ListN.{length, getD, take}
 use lib.Seq.{take-all}
 use Rattle.lists.specs.Count.{countBelow}
-use Rattle.lists.specs.Numbers.{numbersFrom}
 use Rattle.lists.specs.Tabulate.{tabulate}
 use Rattle.lists.specs.Total.{total}
 use Rattle.lists.proofs.Count.{count-suc}
@@ -27,20 +26,6 @@ front-places p xs d (suc n) h =
 
 pub count-places : {A : Type 0} (p : A → Bool) (xs : List A) (d : A) → countBelow (λ k. p (getD xs k d)) (length xs) ≡ total (λ x. cond (p x) 1 0) xs
 count-places p xs d = front-places p xs d (length xs) (omega arith) ∙ ap (total (λ x. cond (p x) 1 0)) (take-all (length xs) xs (omega arith))
-
--- of the numbers that meet a test, those that meet another
-pub numbers-counted : (test p : ℕ → Bool) (from count : ℕ)
-    → total (λ x. cond (p x) 1 0) (numbersFrom test from count) + countBelow (λ n. test n && p n) from ≡ countBelow (λ n. test n && p n) (from + count)
-unfolding numbersFrom total
-numbers-counted test p from zero = rw add-zero (omega arith)
-numbers-counted test p from (suc count) =
-    let place : from + suc count ≡ suc from + count = omega arith in
-    rw place (go (test from) ∙ omega (arith, numbers-counted test p (suc from) count, count-suc (λ n. test n && p n) from))
-  where
-    go : (t : Bool) → total (λ x. cond (p x) 1 0) (cond t (from ∷ numbersFrom test (suc from) count) (numbersFrom test (suc from) count)) + countBelow (λ n. test n && p n) from
-        ≡ total (λ x. cond (p x) 1 0) (numbersFrom test (suc from) count) + (countBelow (λ n. test n && p n) from + cond (t && p from) 1 0)
-    go true = omega arith
-    go false = omega arith
 
 -- a number is one of the n numbers from one on, or none of them
 abbrev pub isAmong : (from n x : ℕ) → Bool

@@ -10,7 +10,7 @@ use lib.Dec.{eqb}
 use lib.ListN.{length, length-map, length-reverse}
 use Rattle.lists.specs.Total.{total}
 use Rattle.raw_bam.specs.Cigar.{opLength, opCode}
-use Rattle.raw_bam.specs.Simplified.{kindOf, simpleEntry, join, prepend, joined, simplified}
+use Rattle.raw_bam.specs.Simplified.{kindOf, simpleEntry, joinedWord, prepend, joined, simplified}
 
 -- a kind is no larger than the code that it is made of
 pub kind-le : (code : ℕ) → kindOf code ≤ code
@@ -24,22 +24,22 @@ kind-le code = by-code (eqb code 4) (eqb code 5) (eqb code 7) (eqb code 8)
     by-code false false false true = zero-le
     by-code false false false false = le-refl code
 
-code-join : (x y : ℕ) → opCode (join x y) ≡ opCode x
+code-join : (x y : ℕ) → opCode (joinedWord x y) ≡ opCode x
 code-join x y = omega arith
 
-join-assoc : (x y z : ℕ) → join x (join y z) ≡ join (join x y) z
+join-assoc : (x y z : ℕ) → joinedWord x (joinedWord y z) ≡ joinedWord (joinedWord x y) z
 join-assoc x y z = omega arith
 
-join-comm : (x y : ℕ) → opCode x ≡ opCode y → join x y ≡ join y x
+join-comm : (x y : ℕ) → opCode x ≡ opCode y → joinedWord x y ≡ joinedWord y x
 join-comm x y e = omega arith
 
 -- an entry put after a list: joined with the last entry where that is of its kind
 extend : List ℕ → ℕ → List ℕ
 extend [] z = z ∷ []
-extend (y ∷ []) z = cond (eqb (opCode y) (opCode z)) (join y z ∷ []) (y ∷ z ∷ [])
+extend (y ∷ []) z = cond (eqb (opCode y) (opCode z)) (joinedWord y z ∷ []) (y ∷ z ∷ [])
 extend (y ∷ y′ ∷ ys) z = y ∷ extend (y′ ∷ ys) z
 
-extend-last : (done : List ℕ) (last z : ℕ) → extend (done ++ (last ∷ [])) z ≡ done ++ cond (eqb (opCode last) (opCode z)) (join last z ∷ []) (last ∷ z ∷ [])
+extend-last : (done : List ℕ) (last z : ℕ) → extend (done ++ (last ∷ [])) z ≡ done ++ cond (eqb (opCode last) (opCode z)) (joinedWord last z ∷ []) (last ∷ z ∷ [])
 unfolding extend
 extend-last [] last z = refl
 extend-last (y ∷ []) last z = refl
@@ -52,8 +52,8 @@ prepend-extend x [] z = refl
 prepend-extend x (y ∷ []) z = by-kinds (eqb (opCode x) (opCode y)) (eqb (opCode y) (opCode z)) refl refl
   where
     by-kinds : (xy yz : Bool) → eqb (opCode x) (opCode y) ≡ xy → eqb (opCode y) (opCode z) ≡ yz
-        → prepend x (cond (eqb (opCode y) (opCode z)) (join y z ∷ []) (y ∷ z ∷ []))
-        ≡ extend (cond (eqb (opCode x) (opCode y)) (join x y ∷ []) (x ∷ y ∷ [])) z
+        → prepend x (cond (eqb (opCode y) (opCode z)) (joinedWord y z ∷ []) (y ∷ z ∷ []))
+        ≡ extend (cond (eqb (opCode x) (opCode y)) (joinedWord x y ∷ []) (x ∷ y ∷ [])) z
     by-kinds true true p q = simp (p, q, code-join, join-assoc, eq-eqb (opCode x) (opCode z) (eqb-true _ _ p ∙ eqb-true _ _ q))
     by-kinds true false p q = simp (p, q, code-join, ne-eqb (opCode x) (opCode z) (λ e. eqb-false (opCode y) (opCode z) q (sym (eqb-true (opCode x) (opCode y) p) ∙ e)))
     by-kinds false true p q = simp (p, q, code-join)
@@ -61,7 +61,7 @@ prepend-extend x (y ∷ []) z = by-kinds (eqb (opCode x) (opCode y)) (eqb (opCod
 prepend-extend x (y ∷ y′ ∷ ys) z = by-kind (eqb (opCode x) (opCode y))
   where
     by-kind : (xy : Bool)
-        → cond xy (join x y ∷ extend (y′ ∷ ys) z) (x ∷ y ∷ extend (y′ ∷ ys) z) ≡ extend (cond xy (join x y ∷ y′ ∷ ys) (x ∷ y ∷ y′ ∷ ys)) z
+        → cond xy (joinedWord x y ∷ extend (y′ ∷ ys) z) (x ∷ y ∷ extend (y′ ∷ ys) z) ≡ extend (cond xy (joinedWord x y ∷ y′ ∷ ys) (x ∷ y ∷ y′ ∷ ys)) z
     by-kind true = refl
     by-kind false = refl
 
@@ -72,7 +72,7 @@ joined-extend (x ∷ xs) z = ap (prepend x) (joined-extend xs z) ∙ prepend-ext
 
 -- one entry more
 pub joined-more : (xs : List ℕ) (z : ℕ) (done : List ℕ) (last : ℕ) → joined xs ≡ done ++ (last ∷ [])
-    → joined (xs ++ (z ∷ [])) ≡ done ++ cond (eqb (opCode last) (opCode z)) (join last z ∷ []) (last ∷ z ∷ [])
+    → joined (xs ++ (z ∷ [])) ≡ done ++ cond (eqb (opCode last) (opCode z)) (joinedWord last z ∷ []) (last ∷ z ∷ [])
 joined-more xs z done last e = joined-extend xs z ∙ ap (λ (l : List ℕ). extend l z) e ∙ extend-last done last z
 
 -- a reversed list joins to the reversed list
@@ -82,10 +82,10 @@ joined-reverse [] = refl
 joined-reverse (x ∷ xs) = rw (reverse-cons x xs, joined-extend, joined-reverse xs) (put (joined xs))
   where
     by-kind : (y : ℕ) (ys : List ℕ) (xy : Bool) → eqb (opCode x) (opCode y) ≡ xy
-        → reverse ys ++ cond (eqb (opCode y) (opCode x)) (join y x ∷ []) (y ∷ x ∷ []) ≡ reverse (cond (eqb (opCode x) (opCode y)) (join x y ∷ ys) (x ∷ y ∷ ys))
+        → reverse ys ++ cond (eqb (opCode y) (opCode x)) (joinedWord y x ∷ []) (y ∷ x ∷ []) ≡ reverse (cond (eqb (opCode x) (opCode y)) (joinedWord x y ∷ ys) (x ∷ y ∷ ys))
     by-kind y ys true p =
         let same = eqb-true (opCode x) (opCode y) p in
-        rw (p, eq-eqb (opCode y) (opCode x) (sym same), reverse-cons (join x y) ys, join-comm x y same)
+        rw (p, eq-eqb (opCode y) (opCode x) (sym same), reverse-cons (joinedWord x y) ys, join-comm x y same)
     by-kind y ys false p =
         rw (p, ne-eqb (opCode y) (opCode x) (λ e. eqb-false (opCode x) (opCode y) p (sym e)), reverse-cons x (y ∷ ys), reverse-cons y ys)
         (sym (append-assoc (reverse ys) (y ∷ []) (x ∷ [])))
@@ -100,7 +100,7 @@ unfolding joined prepend total
 total-joined [] = refl
 total-joined (x ∷ xs) = put (joined xs) ∙ ap (λ (n : ℕ). opLength x + n) (total-joined xs)
   where
-    by-kind : (y : ℕ) (ys : List ℕ) (xy : Bool) → total opLength (cond xy (join x y ∷ ys) (x ∷ y ∷ ys)) ≡ opLength x + (opLength y + total opLength ys)
+    by-kind : (y : ℕ) (ys : List ℕ) (xy : Bool) → total opLength (cond xy (joinedWord x y ∷ ys) (x ∷ y ∷ ys)) ≡ opLength x + (opLength y + total opLength ys)
     by-kind y ys true = omega arith
     by-kind y ys false = refl
 
@@ -114,7 +114,7 @@ unfolding joined prepend
 length-joined [] = zero-le
 length-joined (x ∷ xs) = put (joined xs) (length-joined xs)
   where
-    by-kind : (y : ℕ) (ys : List ℕ) (xy : Bool) → length (y ∷ ys) ≤ length xs → length (cond xy (join x y ∷ ys) (x ∷ y ∷ ys)) ≤ suc (length xs)
+    by-kind : (y : ℕ) (ys : List ℕ) (xy : Bool) → length (y ∷ ys) ≤ length xs → length (cond xy (joinedWord x y ∷ ys) (x ∷ y ∷ ys)) ≤ suc (length xs)
     by-kind y ys true h = omega arith
     by-kind y ys false h = omega arith
 

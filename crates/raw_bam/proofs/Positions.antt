@@ -14,7 +14,7 @@ use Rattle.lists.proofs.Cases.{cond-cases, both-true, and-both}
 use Rattle.lists.proofs.Total.{total-append}
 use Rattle.raw_bam.specs.Cigar.{opLength, opCode, readBases, readLength, referenceBases, referenceLength}
 use Rattle.raw_bam.specs.Operations.{consumesRead, consumesReference}
-use Rattle.raw_bam.specs.ReadPosition.{isAligned, hasAlignedBase, hasAligned, inside, positionAt, readPosition}
+use Rattle.raw_bam.specs.ReadPosition.{isAligned, hasAlignedBase, hasAligned, inside, readPositionAt, readPosition}
 use Rattle.raw_bam.specs.declared.read_pos.ReadPos.{ReadPos}
 use Rattle.raw_bam.specs.declared.read_pos.ReadPos.the-variants.{Base, NoBase}
 
@@ -27,14 +27,14 @@ hasAligned-more (first ∷ words) word = rw (hasAligned-more words word) (sym (o
 module _ (askLast : Bool) (ops : List ℕ) (i k : ℕ) (more : i < length ops) where
   -- the reference base lies in operation i
   pub position-here : k < referenceBases (getD ops i 0)
-      → positionAt askLast (take i ops) (drop i ops) k ≡ inside askLast (readLength (take i ops)) (hasAligned (take i ops)) (getD ops i 0) k
-  unfolding positionAt
+      → readPositionAt askLast (take i ops) (drop i ops) k ≡ inside askLast (readLength (take i ops)) (hasAligned (take i ops)) (getD ops i 0) k
+  unfolding readPositionAt
   position-here h = rw (drop-cons ops i 0, lt-ltb k (referenceBases (getD ops i 0)) h)
 
   -- it lies further on
   pub position-on : referenceBases (getD ops i 0) ≤ k
-      → positionAt askLast (take i ops) (drop i ops) k ≡ positionAt askLast (take (i + 1) ops) (drop (i + 1) ops) (k - referenceBases (getD ops i 0))
-  unfolding positionAt
+      → readPositionAt askLast (take i ops) (drop i ops) k ≡ readPositionAt askLast (take (i + 1) ops) (drop (i + 1) ops) (k - referenceBases (getD ops i 0))
+  unfolding readPositionAt
   position-on h = rw (add-one, take-suc ops i 0, drop-cons ops i 0, le-ltb k (referenceBases (getD ops i 0)) h)
 
 -- an M, = or X consumes its length of both
@@ -59,8 +59,8 @@ aligned-read (word ∷ words) e = first (hasAlignedBase word) refl e (aligned-re
         omega (arith, ltb-true 0 (opLength word) (parts .1), aligned-bases word (parts .0) .0)
     first false some e later = omega (arith, later e)
 
-positionAt-within : (askLast : Bool) (before words : List ℕ) (k : ℕ) → Within (readLength (before ++ words)) (positionAt askLast before words k)
-unfolding positionAt total
+positionAt-within : (askLast : Bool) (before words : List ℕ) (k : ℕ) → Within (readLength (before ++ words)) (readPositionAt askLast before words k)
+unfolding readPositionAt total
 positionAt-within askLast before [] k = tt
 positionAt-within askLast before (word ∷ words) k =
     cond-cases (Within _) (ltb k (referenceBases word))
@@ -74,8 +74,8 @@ positionAt-within askLast before (word ∷ words) k =
     (λ _. tt))))
     (λ _. rw append-assoc at (positionAt-within askLast (before ++ (word ∷ [])) words (k - referenceBases word)))
 
-positionAt-beyond : (askLast : Bool) (before words : List ℕ) (k : ℕ) → referenceLength words ≤ k → positionAt askLast before words k ≡ NoBase
-unfolding positionAt total
+positionAt-beyond : (askLast : Bool) (before words : List ℕ) (k : ℕ) → referenceLength words ≤ k → readPositionAt askLast before words k ≡ NoBase
+unfolding readPositionAt total
 positionAt-beyond askLast before [] k h = refl
 positionAt-beyond askLast before (word ∷ words) k h =
     cond-cases (λ r. r ≡ NoBase) (ltb k (referenceBases word))
@@ -90,8 +90,8 @@ kept false first second e = second e
 no-base : {p : ℕ} {x : ReadPos} → NoBase ≡ Base p → x ≡ Base p
 no-base e = let apart : _≡_ {A = ℕ} 0 1 = cc in absurd (omega arith)
 
-positionAt-asked : (before words : List ℕ) (k : ℕ) {p : ℕ} → positionAt false before words k ≡ Base p → positionAt true before words k ≡ Base p
-unfolding positionAt
+positionAt-asked : (before words : List ℕ) (k : ℕ) {p : ℕ} → readPositionAt false before words k ≡ Base p → readPositionAt true before words k ≡ Base p
+unfolding readPositionAt
 positionAt-asked before [] k e = e
 positionAt-asked before (word ∷ words) k e =
     kept (ltb k (referenceBases word)) (kept (isAligned word) (λ base. base) no-base) (positionAt-asked (before ++ (word ∷ [])) words (k - referenceBases word)) e

@@ -28,12 +28,12 @@ abbrev pub inside : Bool → ℕ → Bool → ℕ → ℕ → ReadPos
 inside askLast read aligned word k = cond (isAligned word) (Base (read + k + 1)) (cond (askLast && aligned) (Base read) NoBase)
 
 -- at the reference base k, from 0, of the operations that are left, with those before them
-unfoldable pub positionAt : Bool → List ℕ → List ℕ → ℕ → ReadPos
-positionAt askLast before [] k = NoBase
-positionAt askLast before (word ∷ words) k =
+unfoldable pub readPositionAt : Bool → List ℕ → List ℕ → ℕ → ReadPos
+readPositionAt askLast before [] k = NoBase
+readPositionAt askLast before (word ∷ words) k =
     cond (ltb k (referenceBases word)) (inside askLast (readLength before) (hasAligned before) word k)
-    (positionAt askLast (before ++ (word ∷ [])) words (k - referenceBases word))
+    (readPositionAt askLast (before ++ (word ∷ [])) words (k - referenceBases word))
 
 -- of a record that starts at a reference position
 unfoldable pub readPosition : Bool → List ℕ → ℕ → ℕ → ReadPos
-readPosition askLast ops start position = cond (ltb position start) NoBase (positionAt askLast [] ops (position - start))
+readPosition askLast ops start position = cond (ltb position start) NoBase (readPositionAt askLast [] ops (position - start))

@@ -14,13 +14,13 @@ unfoldable pub simpleEntry : ℕ → ℕ
 simpleEntry word = opLength word * 16 + kindOf (opCode word)
 
 -- two neighbours of one kind as one entry
-abbrev pub join : ℕ → ℕ → ℕ
-join x y = (opLength x + opLength y) * 16 + opCode x
+abbrev pub joinedWord : ℕ → ℕ → ℕ
+joinedWord x y = (opLength x + opLength y) * 16 + opCode x
 
 -- an entry put before a list: joined with the first entry where that is of its kind
 unfoldable pub prepend : ℕ → List ℕ → List ℕ
 prepend x [] = x ∷ []
-prepend x (y ∷ ys) = cond (eqb (opCode x) (opCode y)) (join x y ∷ ys) (x ∷ y ∷ ys)
+prepend x (y ∷ ys) = cond (eqb (opCode x) (opCode y)) (joinedWord x y ∷ ys) (x ∷ y ∷ ys)
 
 unfoldable pub joined : List ℕ → List ℕ
 joined [] = []

@@ -19,9 +19,9 @@ pub data Refusal : Type 0 where
   refused : ℕ → ℕ → Refusal
 
 -- a malformed table line is 13, with the line
-abbrev pub refusalOf : TableAnswer → Refusal
-refusalOf (answers.Written size) = none
-refusalOf (answers.Malformed line) = refused 13 line
+abbrev pub tableRefusal : TableAnswer → Refusal
+tableRefusal (answers.Written size) = none
+tableRefusal (answers.Malformed line) = refused 13 line
 
 -- the length of a well-formed table's output, or the first malformed line
 abbrev pub answerAt : Checked → ℕ → TableAnswer
@@ -29,8 +29,8 @@ answerAt checked.WellFormed size = answers.Written size
 answerAt (checked.Malformed line) size = answers.Malformed line
 
 -- the answer to a table that was read
-unfoldable pub answerOf : Reading → TableAnswer
-answerOf table = answerAt (table .ending) (length (outputTable (table .rows)))
+unfoldable pub tableAnswer : Reading → TableAnswer
+tableAnswer table = answerAt (table .ending) (length (outputTable (table .rows)))
 
 -- a refusal leaves a buffer as it was
 abbrev pub bufferAt : Refusal → List ℕ → List ℕ → List ℕ
@@ -39,8 +39,8 @@ bufferAt (refused number given) text old = old
 
 -- what combining a table answers, and what it leaves in the lent buffer
 pub record CombinedTable (input old new : List ℕ) (r : TableAnswer) : Type 0 where
-  pub answer : r ≡ answerOf (tableOf input)
-  pub output : new ≡ bufferAt (refusalOf r) (outputTable (tableOf input .rows)) old
+  pub answer : r ≡ tableAnswer (tableOf input)
+  pub output : new ≡ bufferAt (tableRefusal r) (outputTable (tableOf input .rows)) old
 
 -- `refused 13 LINE` and a line feed
 unfoldable pub refusalText : ℕ → ℕ → List ℕ
@@ -53,4 +53,4 @@ textAt (refused number given) text = refusalText number given
 
 -- what the program writes: the output table, or only the line of the refusal
 unfoldable pub standardOutput : List ℕ → List ℕ
-standardOutput input = textAt (refusalOf (answerOf (tableOf input))) (outputTable (tableOf input .rows))
+standardOutput input = textAt (tableRefusal (tableAnswer (tableOf input))) (outputTable (tableOf input .rows))

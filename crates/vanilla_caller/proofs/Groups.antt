@@ -10,7 +10,7 @@ use lib.Seq.{drop-cons}
 use Rattle.raw_bam.specs.Prefix.{isPrefix}
 use Rattle.raw_bam.proofs.Prefixes.{prefix-self}
 use Rattle.vanilla_caller.specs.Founding.{fitsFirst, matches, founded, groupAt}
-use Rattle.vanilla_caller.specs.Group.{Group, join, fitsAny, joinOrFound, groupsAfter}
+use Rattle.vanilla_caller.specs.Group.{Group, joinGroups, fitsAny, joinOrFound, groupsAfter}
 
 module _ (lists : ℕ → List ℕ) where
   abbrev first-of : Group → List ℕ
@@ -28,8 +28,8 @@ module _ (lists : ℕ → List ℕ) where
   fits-first list [] = refl
   fits-first list (g ∷ groups) = ap (cond (isPrefix list (g .first)) true) (fits-first list groups)
 
-  join-one : (i : ℕ) (groups : List Group) → join (lists i) i groups ≡ map (one i) groups
-  unfolding join one
+  join-one : (i : ℕ) (groups : List Group) → joinGroups (lists i) i groups ≡ map (one i) groups
+  unfolding joinGroups one
   join-one i [] = refl
   join-one i (g ∷ groups) = ap (λ (gs : List Group). one i g ∷ gs) (join-one i groups)
 

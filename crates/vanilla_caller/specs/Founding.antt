@@ -1,4 +1,4 @@
--- The groups from their founders' side: a record that no earlier group takes founds one, and takes all records after it whose
+-- Only inner contracts need this file. The groups from their founders' side: a record that no earlier group takes founds one, and takes all records after it whose
 -- list is a prefix of its own. `proofs/Groups.antt` shows that these are the groups of the rule.
 use mathlib.Core.Bool.{Bool, true, false, cond}
 use mathlib.Core.List.{List, [], _∷_, _++_}

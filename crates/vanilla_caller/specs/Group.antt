@@ -15,10 +15,10 @@ pub record Group : Type 0 where
   pub members : List ℕ
 
 -- a record joins every group of whose first list its own is a prefix
-unfoldable pub join : List ℕ → ℕ → List Group → List Group
-join list i [] = []
-join list i (g ∷ gs) =
-    cond (isPrefix list (g .first)) (record { first = g .first; members = g .members ++ (i ∷ []) }) g ∷ join list i gs
+unfoldable pub joinGroups : List ℕ → ℕ → List Group → List Group
+joinGroups list i [] = []
+joinGroups list i (g ∷ gs) =
+    cond (isPrefix list (g .first)) (record { first = g .first; members = g .members ++ (i ∷ []) }) g ∷ joinGroups list i gs
 
 unfoldable pub fitsAny : List ℕ → List Group → Bool
 fitsAny list [] = false
@@ -26,7 +26,7 @@ fitsAny list (g ∷ gs) = cond (isPrefix list (g .first)) true (fitsAny list gs)
 
 -- or else founds one
 unfoldable pub joinOrFound : List ℕ → ℕ → List Group → List Group
-joinOrFound list i groups = cond (fitsAny list groups) (join list i groups) (groups ++ (record { first = list; members = i ∷ [] } ∷ []))
+joinOrFound list i groups = cond (fitsAny list groups) (joinGroups list i groups) (groups ++ (record { first = list; members = i ∷ [] } ∷ []))
 
 -- the groups after each record has joined or founded, one after the other
 unfoldable pub groupsAfter : (ℕ → List ℕ) → List ℕ → List Group → List Group

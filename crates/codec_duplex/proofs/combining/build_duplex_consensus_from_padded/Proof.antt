@@ -8,19 +8,19 @@ use lib.Ieee.{Float}
 use Rattle.codec_duplex.specs.Columns.{Strand, strand, lengths, columnsFit, Filled}
 use Rattle.codec_duplex.specs.Combining.{Combining, outcome}
 use Rattle.codec_duplex.specs.Duplex.{Duplex, duplex, duplexLengths}
-use Rattle.codec_duplex.specs.Limits.{outcomeOf, isDuplex}
+use Rattle.codec_duplex.specs.Limits.{judgementOf, isDuplex}
 use Rattle.codec_duplex.specs.declared.limits.DuplexAnswer.{DuplexAnswer}
 use Rattle.codec_duplex.proofs.Laws.{at-most-2048, fitting}
 use borrow.Author.Needs.{needs}
 use Rattle.codec_duplex.proofs.combining.build_duplex_consensus_from_padded.Statement.{statement}
 use Rattle.codec_duplex.proofs.combining.build_duplex_consensus_from_padded.Tie as tie
 
-module _ (a b : Strand) (before : Duplex) (count : ℕ) (rate : Float) (r : DuplexAnswer) (same : outcomeOf r ≡ outcome a b (duplexLengths before) count rate) where
-  untouched : isDuplex (outcomeOf r) ≡ false → Combining a b count rate r before before
+module _ (a b : Strand) (before : Duplex) (count : ℕ) (rate : Float) (r : DuplexAnswer) (same : judgementOf r ≡ outcome a b (duplexLengths before) count rate) where
+  untouched : isDuplex (judgementOf r) ≡ false → Combining a b count rate r before before
   untouched none =
       record { answer = same; bases = simp (← same, none); quals = simp (← same, none); depths = simp (← same, none); errors = simp (← same, none) }
 
-  filled : isDuplex (outcomeOf r) ≡ true → (after : Duplex) → Filled a b before after → Combining a b count rate r before after
+  filled : isDuplex (judgementOf r) ≡ true → (after : Duplex) → Filled a b before after → Combining a b count rate r before after
   filled one after columns =
       record {
         answer = same;
@@ -51,7 +51,7 @@ fit c = sym (c .before .columns-fit .ensures) ∙ not-false _ (c .if1 .left)
 
 -- the limits judged the strands' tallies
 judgement : (c : tie.After-judge)
-    → outcomeOf (c .judge .result)
+    → judgementOf (c .judge .result)
     ≡ outcome (first (c .before .before)) (second (c .before .before)) (duplexLengths (lent (c .before .before))) (c .before .before .before .before .before .before .before .before .before .before .before .before .before .before .before .before .args .max-disagreements) (c .before .before .before .before .before .before .before .before .before .before .before .before .before .before .before .before .args .max-rate)
 unfolding outcome
 judgement c = rw (c .before .tally .ensures) at (c .judge .ensures) ∙ simp (fit (c .before .before))

@@ -9,7 +9,7 @@ use Rattle.lists.specs.Every.{every}
 use Rattle.codec_duplex.specs.Columns.{Strand, strand, lengths, columnsFit}
 use Rattle.codec_duplex.specs.Combining.{outcome}
 use Rattle.codec_duplex.specs.Duplex.{Duplex, duplex, duplexLengths}
-use Rattle.codec_duplex.specs.Limits.{Outcome, refused, outcomeOf, isDuplex}
+use Rattle.codec_duplex.specs.Limits.{Judgement, refused, judgementOf, isDuplex}
 use Rattle.codec_duplex.proofs.Laws.{at-most-2048, fitting}
 use Rattle.codec_ffi.specs.Answer.{reported}
 use Rattle.codec_ffi.specs.Bytes.{read, readDuplex, pairLengths, duplexPairLengths, byteOutcome, FilledBytes, CombiningBytes}
@@ -26,7 +26,7 @@ either-fails true f x y h = simp h
 either-fails false f x y h = refl
 
 module _ (a b : Strand) (before : Duplex) (count : ℕ) (rate : Float) where
-  module _ (o : Outcome) (same : o ≡ byteOutcome a b before count rate) (r : CombineAnswer) (told : r ≡ reported o) where
+  module _ (o : Judgement) (same : o ≡ byteOutcome a b before count rate) (r : CombineAnswer) (told : r ≡ reported o) where
     untouched : isDuplex o ≡ false → CombiningBytes a b count rate r before before
     untouched none =
         record {
@@ -80,7 +80,7 @@ fits : (c : tie.Else1) → (Even (c .before) ≡ true) × (Fit (c .before) ≡ t
 fits c = and-eq-true-iff _ _ .0 (sym (tested (c .before)) ∙ not-false _ (c .if1 .left))
 
 -- the limits judged the strands' tallies
-judgement : (c : tie.After-judge) → outcomeOf (c .judge .result) ≡ byteOutcome (first (c .before .before .before)) (second (c .before .before .before)) (lent (c .before .before .before)) (c .before .before .before .before .before .before .before .before .before .before .before .before .before .before .before .before .before .args .max-disagreements) (c .before .before .before .before .before .before .before .before .before .before .before .before .before .before .before .before .before .args .max-rate)
+judgement : (c : tie.After-judge) → judgementOf (c .judge .result) ≡ byteOutcome (first (c .before .before .before)) (second (c .before .before .before)) (lent (c .before .before .before)) (c .before .before .before .before .before .before .before .before .before .before .before .before .before .before .before .before .before .args .max-disagreements) (c .before .before .before .before .before .before .before .before .before .before .before .before .before .before .before .before .before .args .max-rate)
 unfolding byteOutcome outcome
 judgement c = rw (c .before .tally .ensures) at (c .judge .ensures) ∙ simp (fits (c .before .before) .0, fits (c .before .before) .1)
 

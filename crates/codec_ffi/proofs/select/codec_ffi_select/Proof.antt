@@ -44,7 +44,7 @@ use denote.Triple.Walked.{says, Stays, stay-none, stay-none-slice, walkOf, goes-
 use denote.Exit.{yes}
 use Rattle.codec_select.specs.Records.{blank}
 use Rattle.codec_select.specs.Marks.{marks, sideFlags}
-use Rattle.codec_select.specs.Selection.{outcomeOf}
+use Rattle.codec_select.specs.Selection.{courseOf}
 use Rattle.codec_select.specs.declared.options.Options.{Options}
 use Rattle.codec_select.specs.declared.records.Record.{Record}
 use Rattle.codec_select.specs.declared.selection.Selection.{Selection}
@@ -104,7 +104,7 @@ same-records o ys tbl n ops r h e d = by-number (ltb 512 (length ys)) refl h
     by-number false few all = rw (table-front ys n all e) at d
     by-number true many none =
         let first = take (length ys) tbl in
-        let out = outcomeOf o (length ys) first ops in
+        let out = courseOf o (length ys) first ops in
         let answer : Selection = record { decision = out .decision; r1 = marks (sideFlags (out .r1) (length first)); r2 = marks (sideFlags (out .r2) (length first)) } in
         let same = selects-many o (length ys) (ltb-true 512 (length ys) many) first ys ops answer (record { decision = refl; r1 = refl; r2 = refl }) in
         record { decision = d .decision ∙ ap reportedSelection (same .decision); r1 = d .r1 ∙ same .r1; r2 = d .r2 ∙ same .r2 }

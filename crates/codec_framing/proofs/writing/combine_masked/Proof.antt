@@ -1,6 +1,6 @@
 -- The columns are what the first call ensures; the second masks the qualities that it wrote.
 use borrow.Author.Needs.{needs}
-use Rattle.codec_duplex.specs.Columns.{strand, column}
+use Rattle.codec_duplex.specs.Columns.{strand, combinedColumn}
 use Rattle.codec_duplex.specs.declared.position.Position.{Position}
 use Rattle.codec_framing.specs.Framing.{maskedDuplex}
 use Rattle.codec_framing.proofs.Lengths.{length-column}
@@ -35,7 +35,7 @@ returns c =
     let a = strand (args .a-bases .now) (args .a-quals .now) (args .a-depths .now) (args .a-errors .now) in
     let b = strand (args .b-bases .now) (args .b-quals .now) (args .b-depths .now) (args .b-errors .now) in
     let columns = combine .combine-columns .ensures in
-    let quals = masked-written (args .masks) (a .bases) (b .bases) _ (column Position.quality a b) _ (length-column Position.quality a b) (columns .quals) (mask .mask-consensus-quals-query-based .ensures) in
+    let quals = masked-written (args .masks) (a .bases) (b .bases) _ (combinedColumn Position.quality a b) _ (length-column Position.quality a b) (columns .quals) (mask .mask-consensus-quals-query-based .ensures) in
     same-duplex (columns .bases) quals (columns .depths) (columns .errors)
 
 pub combine-masked-spec : {M : Type 1} → statement M

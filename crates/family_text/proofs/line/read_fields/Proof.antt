@@ -10,7 +10,7 @@ use Rattle.lists.proofs.Written.{written-more}
 use Rattle.lists.specs.Written.{written}
 use Rattle.table_text.proofs.FieldLists.{fields-none, fields-some}
 use Rattle.table_text.specs.Fields.{read, malformed, fieldsFrom}
-use Rattle.family_text.specs.Line.{inFront, valuesOf, column}
+use Rattle.family_text.specs.Line.{inFront, valuesOf, valuesPlaced}
 use Rattle.family_text.specs.Value.{none, valueField}
 use Rattle.family_text.specs.declared.line.Values.{Values}
 use Rattle.family_text.specs.declared.value.Value.{Value}

@@ -8,7 +8,7 @@ use lib.ListN.{getD}
 use mir.Facts.{toZ-ofZ}
 use mir.Syntax.{w32}
 use mir.Val.{SFits}
-use Rattle.family_text.specs.Fit.{Within}
+use Rattle.family_text.specs.Fit.{InLimit}
 use Rattle.family_text.specs.Record.{integerOf, recordFrom}
 use Rattle.family_text.specs.Value.{none}
 use Rattle.family_text.specs.declared.value.Value.{Value}
@@ -16,11 +16,11 @@ use Rattle.family_text.proofs.record.record_from.Statement.{statement}
 use Rattle.family_text.proofs.record.record_from.Tie as tie
 
 -- a number with its sign has 32 bits
-integer-fits : (v : Value) → Within (v .negative) 2147483647 (v .magnitude) → SFits w32 (integerOf v)
+integer-fits : (v : Value) → InLimit (v .negative) 2147483647 (v .magnitude) → SFits w32 (integerOf v)
 unfolding integerOf
 integer-fits v = go (v .negative)
   where
-    go : (t : Bool) → Within t 2147483647 (v .magnitude) → SFits w32 (cond t (negsuc (v .magnitude - 1)) (pos (v .magnitude)))
+    go : (t : Bool) → InLimit t 2147483647 (v .magnitude) → SFits w32 (cond t (negsuc (v .magnitude - 1)) (pos (v .magnitude)))
     go true h = sfits-of (omega arith)
     go false h = sfits-of (omega arith)
 

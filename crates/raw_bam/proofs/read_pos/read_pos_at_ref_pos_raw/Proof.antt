@@ -11,7 +11,7 @@ use lib.Seq.{take-suc}
 use Rattle.lists.specs.Total.{total}
 use Rattle.lists.proofs.Total.{total-more}
 use Rattle.raw_bam.specs.Cigar.{readBases, readLength}
-use Rattle.raw_bam.specs.ReadPosition.{hasAligned, positionAt, readPosition}
+use Rattle.raw_bam.specs.ReadPosition.{hasAligned, readPositionAt, readPosition}
 use Rattle.raw_bam.proofs.Positions.{hasAligned-more, position-here, position-on}
 use Rattle.raw_bam.proofs.read_pos.read_pos_at_ref_pos_raw.Statement.{statement}
 use Rattle.raw_bam.proofs.read_pos.read_pos_at_ref_pos_raw.Tie as tie
@@ -21,7 +21,7 @@ Inv-loop ops start position ask-last k₀ read₀ aligned₀ i₀ k read aligned
     (i ≤ length ops)
     × (read ≡ readLength (take i ops))
     × (aligned ≡ hasAligned (take i ops))
-    × (positionAt ask-last (take i ops) (drop i ops) k ≡ positionAt ask-last [] ops k₀)
+    × (readPositionAt ask-last (take i ops) (drop i ops) k ≡ readPositionAt ask-last [] ops k₀)
     × (read ≤ 268435455 * i)
 
 abbrev μ-loop : tie.MeasureT-loop
@@ -85,7 +85,7 @@ loop-again c =
     )
 
 returns-3 : tie.Need-returns-3 Inv-loop μ-loop
-unfolding readPosition positionAt
+unfolding readPosition readPositionAt
 returns-3 c =
     let at = c .before in
     let args = at .before .before .before .args in

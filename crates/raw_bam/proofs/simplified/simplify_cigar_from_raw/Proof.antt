@@ -15,7 +15,7 @@ use Rattle.lists.proofs.Reverse.{getD-reverse, map-reverse}
 use Rattle.lists.proofs.Written.{length-written, written-more}
 use lib.Dec.{eqb}
 use Rattle.raw_bam.specs.Cigar.{opCode}
-use Rattle.raw_bam.specs.Simplified.{simpleEntry, join, prepend, joined, simplified}
+use Rattle.raw_bam.specs.Simplified.{simpleEntry, joinedWord, prepend, joined, simplified}
 use Rattle.raw_bam.proofs.Joining.{joined-more, joined-reverse}
 use Rattle.raw_bam.proofs.simplified.simplify_cigar_from_raw.Statement.{statement}
 use Rattle.raw_bam.proofs.simplified.simplify_cigar_from_raw.Tie as tie
@@ -72,7 +72,7 @@ entry-read isReverse ops i p e h q r = ap simpleEntry (getD-inOrder isReverse op
 next : (c : tie.After-simple-entry2 Inv-loop μ-loop)
     → let at = c .before .before .before .before in
     joined (map simpleEntry (take (at .loop .i + 1) (inOrder (at .before .before .before .before .before .before .before .args .reverse) (at .before .before .before .before .before .before .before .args .ops .now))))
-    ≡ at .loop .inv .0 ++ cond (eqb (opCode (at .loop .last)) (opCode (c .simple-entry2 .result))) (join (at .loop .last) (c .simple-entry2 .result) ∷ []) (at .loop .last ∷ c .simple-entry2 .result ∷ [])
+    ≡ at .loop .inv .0 ++ cond (eqb (opCode (at .loop .last)) (opCode (c .simple-entry2 .result))) (joinedWord (at .loop .last) (c .simple-entry2 .result) ∷ []) (at .loop .last ∷ c .simple-entry2 .result ∷ [])
 next c =
     let at = c .before .before .before .before in
     let args = at .before .before .before .before .before .before .before .args in
@@ -150,7 +150,7 @@ loop-again c =
     ⊎-elim
     (λ w.
     let same = eq-eqb (opCode last) (opCode entry) (w .0 .taken) in
-    let longer : join last entry ≡ c .if2 .last = omega (arith, w .2) in (
+    let longer : joinedWord last entry ≡ c .if2 .last = omega (arith, w .2) in (
       done,
       omega arith,
       omega (arith, w .3),

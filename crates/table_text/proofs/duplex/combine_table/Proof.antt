@@ -2,7 +2,7 @@
 use mathlib.Core.Path.{_≡_, refl, sym, _∙_, ap}
 use borrow.Author.Needs.{needs}
 use lib.ListN.{length}
-use Rattle.table_text.specs.Duplex.{answerAt, answerOf}
+use Rattle.table_text.specs.Duplex.{answerAt, tableAnswer}
 use Rattle.table_text.specs.InputTable.{Reading}
 use Rattle.table_text.specs.OutputTable.{outputTable}
 use Rattle.table_text.specs.declared.duplex.TableAnswer.the-variants.{Written}
@@ -10,8 +10,8 @@ use Rattle.table_text.specs.declared.input_table.Checked.{Checked}
 use Rattle.table_text.proofs.duplex.combine_table.Statement.{statement}
 use Rattle.table_text.proofs.duplex.combine_table.Tie as tie
 
-answer-is : (table : Reading) (ending : Checked) → table .ending ≡ ending → answerAt ending (length (outputTable (table .rows))) ≡ answerOf table
-unfolding answerOf
+answer-is : (table : Reading) (ending : Checked) → table .ending ≡ ending → answerAt ending (length (outputTable (table .rows))) ≡ tableAnswer table
+unfolding tableAnswer
 answer-is table ending e = ap (λ (r : Checked). answerAt r (length (outputTable (table .rows)))) (sym e)
 
 check-table-requires : tie.Need-check-table-requires

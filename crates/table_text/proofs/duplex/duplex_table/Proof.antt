@@ -7,7 +7,7 @@ use borrow.Author.Needs.{needs}
 use lib.ListN.{length, drop, length-append}
 use lib.Seq.{length-take-le}
 use Rattle.lists.specs.Written.{written}
-use Rattle.table_text.specs.Duplex.{refusalOf, answerAt, answerOf, textAt, refusalText, standardOutput}
+use Rattle.table_text.specs.Duplex.{tableRefusal, answerAt, tableAnswer, textAt, refusalText, standardOutput}
 use Rattle.table_text.specs.InputTable.{Reading, tableOf}
 use Rattle.table_text.specs.OutputTable.{outputTable, Front}
 use Rattle.table_text.specs.declared.duplex.TableAnswer.{TableAnswer}
@@ -18,17 +18,17 @@ use Rattle.table_text.proofs.duplex.duplex_table.Statement.{statement}
 use Rattle.table_text.proofs.duplex.duplex_table.Tie as tie
 
 -- an answer that is a size is that of the output table
-size-is : (table : Reading) (size : ℕ) → answerOf table ≡ Written size → size ≡ length (outputTable (table .rows))
-unfolding answerOf
+size-is : (table : Reading) (size : ℕ) → tableAnswer table ≡ Written size → size ≡ length (outputTable (table .rows))
+unfolding tableAnswer
 size-is table size e = go (table .ending) e
   where
     go : (ending : Checked) → answerAt ending (length (outputTable (table .rows))) ≡ Written size → size ≡ length (outputTable (table .rows))
     go checked.WellFormed e = cc
     go (checked.Malformed line) e = cc
 
-text-is : (input : List ℕ) (answer : TableAnswer) → answer ≡ answerOf (tableOf input) → standardOutput input ≡ textAt (refusalOf answer) (outputTable (tableOf input .rows))
+text-is : (input : List ℕ) (answer : TableAnswer) → answer ≡ tableAnswer (tableOf input) → standardOutput input ≡ textAt (tableRefusal answer) (outputTable (tableOf input .rows))
 unfolding standardOutput
-text-is input answer e = ap (λ (r : TableAnswer). textAt (refusalOf r) (outputTable (tableOf input .rows))) (sym e)
+text-is input answer e = ap (λ (r : TableAnswer). textAt (tableRefusal r) (outputTable (tableOf input .rows))) (sym e)
 
 filled : (text old : List ℕ) {new : List ℕ} {size : ℕ} → size ≡ length text → new ≡ written text old → (size ≡ length text) × ((new ≡ written text old) × Front size new)
 filled text old {new} {size} e same =
