@@ -241,5 +241,32 @@ struct codec_ffi_dispatch_answer codec_ffi_add(struct codec_ffi_dispatcher dispa
 
 /* The first waiting lane after the one served last, in a circle: its count is lowered, also if its family is then refused. */
 struct codec_ffi_dispatch_answer codec_ffi_turn(struct codec_ffi_dispatcher dispatcher);
+enum codec_ffi_cigar_kind {
+    CODEC_FFI_CIGAR_WRITTEN = 0, /* the number of words written */
+    CODEC_FFI_CIGAR_REFUSED = 1, /* refusal 24, 25 or 26 with 0: the output is as it was */
+};
+
+/* Fields that do not belong to the kind are 0. */
+struct codec_ffi_cigar_answer {
+    uint32_t kind;
+    uint32_t number;
+    uint64_t with;
+    uint64_t count;
+};
+
+/*
+ * M becomes = and X by the bases: at most 64 words, as many read bases (at most 1,024) and reference bases as they consume, an
+ * output of 2,048 words or more. No pointer is null, also where its length is 0, and the output overlaps nothing.
+ */
+struct codec_ffi_cigar_answer codec_ffi_extend_cigar(
+    const uint32_t *words, size_t words_len,
+    const uint8_t *read, size_t read_len,
+    const uint8_t *reference, size_t reference_len,
+    uint32_t *output, size_t output_len);
+
+/* = and X become M, and neighbouring M's join: at most 1,088 words of at most 1,024 read bases. */
+struct codec_ffi_cigar_answer codec_ffi_flatten_cigar(
+    const uint32_t *words, size_t words_len,
+    uint32_t *output, size_t output_len);
 
 #endif

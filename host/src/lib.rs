@@ -1,4 +1,5 @@
-//! The proved calls of a CODEC duplex caller, from Rust: a whole family, selection alone, the combining step, and the turns of eight lanes.
+//! The proved calls of a CODEC duplex caller, from Rust: a whole family, selection alone, the combining step, the turns of eight
+//! lanes, and both conversions of CIGARs.
 //!
 //! [`family`] stands in the place of the original's `consensus_reads_raw`: records and strands in, the duplex, the rejected
 //! records and the next [`Ledger`] out. It takes all room from the caller, allocates nothing and does not panic.
@@ -116,7 +117,28 @@
 //! assert_eq!(dispatcher.add(8).map_err(|refusal| refusal.number), Err(22));
 //! # Ok::<(), codec_host::Refusal>(())
 //! ```
+//!
+//! [`extend_cigar`] and [`flatten_cigar`] go from a partner that sends M to one that sends = and X, and back.
+//!
+//! ```
+//! use codec_host::{CIGAR_ROOM, extend_cigar, flatten_cigar};
+//!
+//! let [m, i, d, equal, x] = [0, 1, 2, 7, 8];
+//! let word = |length: u32, code: u32| length * 16 + code;
+//! // 5M3I2D4M
+//! let plain = [word(5, m), word(3, i), word(2, d), word(4, m)];
+//! let mut extended = [0; CIGAR_ROOM];
+//! let count = extend_cigar(&plain, b"AAAAACCCGGGG", b"AAAATTTGGGC", &mut extended)?;
+//! let [a, b, c] = [word(4, equal), word(1, x), word(3, equal)];
+//! assert_eq!(extended[..count], [a, b, word(3, i), word(2, d), c, b]);
+//! let mut back = [0; CIGAR_ROOM];
+//! let count = flatten_cigar(&extended[..count], &mut back)?;
+//! assert_eq!(back[..count], plain);
+//! assert_eq!(extend_cigar(&[a], b"AAAA", b"AAAA", &mut back).map_err(|refusal| refusal.number), Err(24));
+//! # Ok::<(), codec_host::Refusal>(())
+//! ```
 
+mod cigar;
 mod dispatch;
 mod family;
 mod room;
@@ -124,6 +146,7 @@ mod select;
 mod sys;
 pub mod text;
 
+pub use cigar::{CIGAR_ROOM, extend_cigar, flatten_cigar};
 pub use dispatch::{Dispatcher, LANES, Turn};
 pub use family::{
     Ending, FamilyAnswer, LIST_PLACES, Ledger, Lent, MARK_WORDS, Rates, Reason, Refusal, family,

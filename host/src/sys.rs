@@ -83,12 +83,38 @@ pub struct DispatchAnswer {
     pub dispatcher: Dispatcher,
 }
 
+#[repr(C)]
+pub struct CigarAnswer {
+    pub kind: u32,
+    pub number: u32,
+    pub with: u64,
+    pub count: u64,
+}
+
 unsafe extern "C" {
     pub fn codec_ffi_fresh_dispatcher() -> Dispatcher;
 
     pub fn codec_ffi_add(dispatcher: Dispatcher, lane: u32) -> DispatchAnswer;
 
     pub fn codec_ffi_turn(dispatcher: Dispatcher) -> DispatchAnswer;
+
+    pub fn codec_ffi_extend_cigar(
+        words: *const u32,
+        words_len: usize,
+        read: *const u8,
+        read_len: usize,
+        reference: *const u8,
+        reference_len: usize,
+        output: *mut u32,
+        output_len: usize,
+    ) -> CigarAnswer;
+
+    pub fn codec_ffi_flatten_cigar(
+        words: *const u32,
+        words_len: usize,
+        output: *mut u32,
+        output_len: usize,
+    ) -> CigarAnswer;
 
     pub fn codec_ffi_select(
         records: *const Record,

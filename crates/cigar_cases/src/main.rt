@@ -1,8 +1,14 @@
 // Outside vectors over CIGARs, one line for each, held to what was worked out from the documents.
+mod extended;
 mod group;
 mod show;
 mod text;
 
+use extended::show_back;
+use extended::show_long;
+use extended::show_most;
+use extended::show_small_output;
+use extended::show_there;
 use group::Read;
 use group::show_group;
 use show::show_cigar;
@@ -181,6 +187,38 @@ fn groups() {
     );
 }
 
+// Document 02, Req 08: M as = and X by the bases, and back.
+fn plain_to_extended() {
+    show_there(b"3M3M", b"ACGTTT", b"ACGTTT");
+    show_there(b"3M3M", b"ACGTTT", b"ACATTT");
+    show_there(b"5M3I2D4M", b"AAAAACCCGGGG", b"AAAATTTGGGC");
+    show_there(b"2H3S4M2N1P2M1I3S2H", b"tttACGTGTCggg", b"ACCTnnGA");
+    show_there(b"1M", b"N", b"N");
+    show_there(b"1M", b"a", b"A");
+    show_there(b"*", b"", b"");
+    show_there(b"1I1I1M1M2D2D", b"ACGT", b"GAAAAA");
+    show_there(b"1M", b"", b"A");
+    show_there(b"1M", b"A", b"");
+    show_there(b"1M", b"AA", b"A");
+    show_there(b"2M1=", b"AAA", b"AAA");
+    show_there(b"2M1X", b"AAA", b"AAA");
+    show_there(b"0M", b"", b"");
+    show_there(b"1Q", b"", b"");
+    show_there(b"1025S", b"A", b"");
+}
+
+fn extended_to_plain() {
+    show_back(b"1M1=1X2M");
+    show_back(b"1024=");
+    show_back(b"1023=1X1I");
+    show_back(b"1=1I1I1X");
+    show_back(b"3S2=1X2D2D1=4H");
+    show_back(b"268435455H268435455H268435455N");
+    show_back(b"*");
+    show_back(b"0=");
+    show_back(b"1Q");
+}
+
 fn main() {
     sam_example();
     last_bases();
@@ -190,4 +228,9 @@ fn main() {
     prefixes();
     ties();
     groups();
+    plain_to_extended();
+    extended_to_plain();
+    show_most();
+    show_long();
+    show_small_output();
 }

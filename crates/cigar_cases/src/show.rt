@@ -17,7 +17,7 @@ pub fn put(text: &[u8]) {
     io::write_all(STDOUT_FILENO, text);
 }
 
-fn put_number(n: u64) {
+pub fn put_number(n: u64) {
     io::print_decimal(STDOUT_FILENO, n);
 }
 
@@ -38,7 +38,7 @@ fn put_position(position: ReadPos) {
     }
 }
 
-fn put_entry(entry: u64) {
+pub fn put_entry(entry: u64) {
     put_number(entry / 16);
     put(&[letter_of(entry % 16)]);
 }

@@ -1,5 +1,6 @@
 //! The exported calls beside the original and beside the second reader of document 01.
 
+pub mod cigars;
 pub mod enumerated;
 pub mod guarded;
 pub mod held;

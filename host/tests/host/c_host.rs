@@ -45,6 +45,11 @@ fn a_c_program_takes_turns() {
 }
 
 #[test]
+fn a_c_program_converts_cigars() {
+    runs("cigar");
+}
+
+#[test]
 fn a_c_program_calls_a_family() {
     let output = run("examples/family.c");
     assert!(output.status.success());

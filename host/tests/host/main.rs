@@ -2,6 +2,7 @@
 
 mod c_host;
 mod call;
+mod cigar;
 mod columns;
 mod dispatch;
 mod family;

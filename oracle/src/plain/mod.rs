@@ -2,6 +2,7 @@
 
 mod cigar;
 mod columns;
+pub mod conversion;
 mod group;
 pub mod lanes;
 pub mod ledger;

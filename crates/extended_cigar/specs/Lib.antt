@@ -1,0 +1,4 @@
+pub mod Converted
+pub mod Extended
+pub mod Plain
+pub mod Refusals
