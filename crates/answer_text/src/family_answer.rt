@@ -21,15 +21,16 @@ ghost use Rattle.answer_text.specs.FamilyText.{endingText, listedText, l
 // places, and 422 for the ledger.
 pub const ANSWER_BYTES: usize = 112813;
 
-const CALLED: u32 = 0;
+// The kinds of an ending, as the call gives them.
+pub const CALLED: u32 = 0;
 
-const EMPTY: u32 = 1;
+pub const EMPTY: u32 = 1;
 
-const NO_STRAND: u32 = 2;
+pub const NO_STRAND: u32 = 2;
 
-const REJECTED: u32 = 3;
+pub const REJECTED: u32 = 3;
 
-const REFUSED: u32 = 4;
+pub const REFUSED: u32 = 4;
 
 fn write_ending(ending: FamilyEnding, output: &mut [u8], to: usize) -> usize
     requires { ⌜ to + 52 ≤ length (now output) ⌝ }

@@ -1,4 +1,8 @@
 // The list that is handed over, for people: the families that gave no duplex, and their rejected records with the reasons by name.
+use answer_text::family_answer::CALLED;
+use answer_text::family_answer::EMPTY;
+use answer_text::family_answer::NO_STRAND;
+use answer_text::family_answer::REJECTED;
 use answer_text::line::end_line;
 use answer_text::line::write_fields;
 use answer_text::line::write_words;
@@ -13,14 +17,6 @@ ghost use Rattle.handover_text.specs.Handover.{reasonName, outcomeText, 
 
 // Room for what is handed over of a family: 78 bytes for how it ended, and 74 for each of 512 records.
 pub const HANDOVER_BYTES: usize = 37966;
-
-const CALLED: u32 = 0;
-
-const EMPTY: u32 = 1;
-
-const NO_STRAND: u32 = 2;
-
-const REJECTED: u32 = 3;
 
 // The longest name has 24 bytes.
 pub(crate) fn write_reason(number: u32, output: &mut [u8], to: usize) -> usize
