@@ -1,19 +1,20 @@
 -- The remaining records of a name, read off a search for them.
-use mathlib.Core.Bool.{Bool, true, false, not, and-true, false≢true}
+use mathlib.Core.Bool.{Bool, true, false, cond, not, _||_, and-true, false≢true}
 use mathlib.Core.List.{List, [], _∷_}
 use mathlib.Core.Logic.{⊎-elim}
 use mathlib.Core.Path.{_≡_, refl, sym, _∙_}
-use Prim.Native.Nat.{ℕ, zero-le, _+_, _-_, _≤_, _<_}
-use native.Mathlib.Nat.{eq-zero-or-pos}
+use Prim.Native.Nat.{ℕ, zero, suc, zero-le, _+_, _-_, _≤_, _<_}
+use native.Mathlib.Nat.{add-zero, zero-add, suc-add, eq-zero-or-pos}
 use native.Mathlib.Omega.{arith}
 use borrow.Author.Tests.{eq-eqb, eqb-true, not-true}
 use lib.Dec.{eqb}
 use lib.ListN.{length, getD}
+use Rattle.lists.specs.Numbers.{numbersFrom}
 use Rattle.lists.proofs.Cases.{and-both, fails-of-never}
 use Rattle.lists.proofs.Numbers.{numbers-yes, numbers-no, numbers-end, numbers-has}
 use Rattle.raw_bam.specs.Flags.{PAIRED, hasFlag}
 use Rattle.codec_pairing.specs.Pairing.{notPrimary, remains, isNamesake, namesakesFrom, namesakes, isPair, isFirst, isEntered, fateOf, opensPair, laterOf}
-use Rattle.codec_pairing.specs.Search.{Reached, Preceded}
+use Rattle.codec_pairing.specs.Search.{Reached, Preceded, isSome, hasNamesake}
 use Rattle.codec_pairing.proofs.Sides.{one-of-two, opens-namesakes, later-after}
 
 module _ {flags names : List ℕ} {name from r : ℕ} (reached : Reached flags names name from r) where
@@ -26,6 +27,53 @@ module _ {flags names : List ℕ} {name from r : ℕ} (reached : Reached flags n
   pub none-found : length flags ≤ r → namesakesFrom flags names name from ≡ []
   unfolding namesakesFrom
   none-found h = reached .none-between ∙ numbers-end (isNamesake flags names name) (length flags) r h
+
+-- numbers of which none meets a test are passed over
+none-of : (test : ℕ → Bool) (count from more : ℕ) → isSome (numbersFrom test from count) ≡ false → numbersFrom test from (count + more) ≡ numbersFrom test (from + count) more
+unfolding isSome numbersFrom
+none-of test zero from more none = rw (zero-add, add-zero)
+none-of test (suc count) from more none =
+    let place : suc from + count ≡ from + suc count = omega arith in
+    rw (suc-add, ← place) (by-test (test from) none (none-of test count (suc from) more))
+  where
+    by-test : (b : Bool) → isSome (cond b (from ∷ numbersFrom test (suc from) count) (numbersFrom test (suc from) count)) ≡ false
+        → (isSome (numbersFrom test (suc from) count) ≡ false → numbersFrom test (suc from) (count + more) ≡ numbersFrom test (suc from + count) more)
+        → cond b (from ∷ numbersFrom test (suc from) (count + more)) (numbersFrom test (suc from) (count + more)) ≡ numbersFrom test (suc from + count) more
+    by-test true none later = absurd (false≢true (sym none))
+    by-test false none later = later none
+
+module _ (flags names : List ℕ) (name from to : ℕ) where
+  -- no record of the name stands between
+  pub none-between : from ≤ to → to ≤ length flags → hasNamesake flags names name from to ≡ false → namesakesFrom flags names name from ≡ namesakesFrom flags names name to
+  unfolding hasNamesake namesakesFrom
+  none-between h within none =
+      let all : length flags - from ≡ (to - from) + (length flags - to) = omega arith in
+      let place : from + (to - from) ≡ to = omega arith in
+      rw all (rw place at (none-of (isNamesake flags names name) (to - from) from (length flags - to) none))
+
+  -- one record more is asked
+  pub asked-more : (k : ℕ) → k < to → hasNamesake flags names name k to ≡ isNamesake flags names name k || hasNamesake flags names name (k + 1) to
+  unfolding hasNamesake isSome
+  asked-more k h = by-test (isNamesake flags names name k) refl
+    where
+      by-test : (b : Bool) → isNamesake flags names name k ≡ b → isSome (numbersFrom (isNamesake flags names name) k (to - k)) ≡ b || isSome (numbersFrom (isNamesake flags names name) (k + 1) (to - (k + 1)))
+      by-test true e = rw (numbers-yes (isNamesake flags names name) to k h e)
+      by-test false e = rw (numbers-no (isNamesake flags names name) to k h e)
+
+  pub asked-all : (k : ℕ) → to ≤ k → hasNamesake flags names name k to ≡ false
+  unfolding hasNamesake isSome
+  asked-all k h = rw (numbers-end (isNamesake flags names name) to k h)
+
+-- a third record of the name
+pub third-found : (verdicts : List Bool) (one two : ℕ) (more : List ℕ) → isSome more ≡ true → isPair verdicts (one ∷ two ∷ more) ≡ false
+unfolding isSome isPair
+third-found verdicts one two [] some = absurd (false≢true some)
+third-found verdicts one two (three ∷ more) some = refl
+
+pub none-more : (more : List ℕ) → isSome more ≡ false → more ≡ []
+unfolding isSome
+none-more [] none = refl
+none-more (three ∷ more) none = absurd (false≢true (sym none))
 
 -- the record before record k is not of the name
 pub none-passed : (flags names : List ℕ) (name k : ℕ) → 0 < k → k ≤ length flags → isNamesake flags names name (k - 1) ≡ false

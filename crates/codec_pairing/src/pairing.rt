@@ -13,7 +13,7 @@ ghost use lib.ListN.{length, getD};
 ghost use Rattle.lists.specs.Tabulate.{tabulate};
 ghost use Rattle.lists.specs.Written.{written};
 ghost use Rattle.codec_pairing.specs.Pairing.{Columns, notPrimary, remains, namesakes, isPair, fateOf, opensPair, laterOf, sideR1, sideR2};
-ghost use Rattle.codec_pairing.specs.Search.{Reached, Preceded};
+ghost use Rattle.codec_pairing.specs.Search.{Reached, Preceded, hasNamesake};
 
 fn is_not_primary(flags: u16) -> bool
     ensures { λ r. ⌜ r ≡ notPrimary flags ⌝ }
@@ -51,12 +51,29 @@ fn next_namesake(flags: &[u16], names: &[u32], name: u32, from: usize) -> usize
     i
 }
 
+// Some record from one on and before another remains and has the name. They are asked with no branch, so that many are at once.
+fn has_namesake(flags: &[u16], names: &[u32], name: u32, from: usize, to: usize) -> bool
+    requires { ⌜ (length (now names) ≡ length (now flags)) × (from ≤ to) × (to ≤ length (now flags)) ⌝ }
+    ensures { λ r. ⌜ r ≡ hasNamesake (now (flags .entry)) (now (names .entry)) name from to ⌝ }
+{
+    let mut any = false;
+    let mut k = from;
+    while k < to {
+        any = any | ((names[k] == name) & is_remaining(flags[k]));
+        k += 1;
+    }
+    any
+}
+
 // The last record of record i's name that remains before it; i itself where there is none.
 fn previous_namesake(flags: &[u16], names: &[u32], i: usize) -> usize
     requires { ⌜ (length (now names) ≡ length (now flags)) × (i < length (now flags)) ⌝ }
     ensures { λ r. ⌜ Preceded (now (flags .entry)) (now (names .entry)) i r ⌝ }
 {
     let name = names[i];
+    if !has_namesake(flags, names, name, 0, i) {
+        return i;
+    }
     let mut k = i;
     while 0 < k {
         k -= 1;
@@ -81,8 +98,7 @@ fn is_pair(flags: &[u16], names: &[u32], verdicts: &[bool], i: usize) -> bool
     if n <= later {
         return false;
     }
-    let third = next_namesake(flags, names, name, later + 1);
-    if third < n {
+    if has_namesake(flags, names, name, later + 1, n) {
         return false;
     }
     verdicts[i]

@@ -2,13 +2,15 @@
 use mathlib.Core.Bool.{Bool, true, false, cond}
 use mathlib.Core.List.{List, _++_, append-assoc, append-nil, map, reverse}
 use mathlib.Core.Path.{_≡_, refl, sym, _∙_, ap}
-use Prim.Native.Nat.{ℕ, _+_, _-_, _≤_, _<_}
+use Prim.Native.Nat.{ℕ, zero-le, _+_, _-_, _≤_, _<_}
 use native.Mathlib.Omega.{arith}
-use lib.ListN.{length, getD, take, drop, replicate, length-append, length-take, length-drop, length-map, length-reverse, length-replicate, replicate-append-replicate, drop-of-length-le, List·getD-map}
+use lib.ListN.{length, getD, set, take, drop, replicate, length-append, length-set, length-take, length-drop, length-map, length-reverse, length-replicate, replicate-append-replicate, drop-of-length-le, List·getD-map}
 use lib.Seq.{take-at, take-all, length-take-le, drop-at}
 use borrow.Rule.Slice.PartMut.{midOf, putMid}
+use Rattle.lists.specs.Tabulate.{tabulate}
 use Rattle.lists.specs.Written.{written}
 use Rattle.lists.proofs.Reverse.{getD-reverse}
+use Rattle.lists.proofs.Tabulate.{tabulate-put, tabulate-all}
 use Rattle.codec_strands.specs.Strands.{complement, turned, turnedBases, padded}
 
 module _ {A : Type 0} where
@@ -21,6 +23,24 @@ module _ {A : Type 0} where
       → getD (turned reversed xs) i d ≡ getD xs (cond reversed (length xs - 1 - i) i) d
   turned-at true xs i d h = getD-reverse xs i d h
   turned-at false xs i d h = refl
+
+  -- a column that is written place by place: the first i places of xs stand in it
+  abbrev pub Writing : (xs old : List A) (d : A) (i : ℕ) (column : List A) → Type 0
+  Writing xs old d i column = (i ≤ length xs) × (length column ≡ length old) × (column ≡ written (tabulate (λ k. getD xs k d) i) old)
+
+  pub writing-none : (xs old : List A) (d : A) → Writing xs old d 0 old
+  unfolding tabulate
+  writing-none xs old d = (zero-le, refl, refl)
+
+  pub writing-more : (xs old : List A) (d : A) (i : ℕ) {column : List A} {value : A} → i < length xs → length xs ≤ length old
+      → Writing xs old d i column
+      → value ≡ getD xs i d
+      → Writing xs old d (i + 1) (set column i value)
+  writing-more xs old d i h room so-far is =
+      (omega arith, simp length-set (so-far .1), tabulate-put (λ k. getD xs k d) old i (omega arith) (so-far .2) is)
+
+  pub writing-all : (xs old : List A) (d : A) {i : ℕ} {column : List A} → length xs ≤ i → Writing xs old d i column → column ≡ written xs old
+  writing-all xs old d end so-far = tabulate-all xs old d (omega arith) (so-far .2)
 
   length-padded : (left : Bool) (pad : A) (n : ℕ) (xs : List A) → length xs ≤ n → length (padded left pad n xs) ≡ n
   length-padded true pad n xs h = simp (length-append, length-replicate) (omega arith)

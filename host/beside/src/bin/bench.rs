@@ -21,6 +21,8 @@ const PAIRS: usize = 16;
 const ROUNDS: usize = 2_001;
 /// Enough for families, whose calls are longer.
 const FAMILY_ROUNDS: usize = 401;
+/// Records between two looks at the clock: few enough that most looks fall into one turn on a busy processor.
+const TOGETHER: usize = 64;
 /// Bases of a read and of a strand.
 const READ: usize = 150;
 
@@ -144,15 +146,18 @@ fn beside(
 ) {
     let mut calls = FamilyCalls::new(CodecConsensusOptions::default());
     let (mut exported, mut original) = (Vec::new(), Vec::new());
+    let records = families[0].records.len();
+    let together = (TOGETHER / records).clamp(1, PAIRS);
     for _ in 0..FAMILY_ROUNDS {
-        exported.push(per_call(families, &mut ask));
+        exported.extend(families.chunks(together).map(|some| per_call(some, &mut ask)));
         calls.hand_over(strands.iter().cloned());
-        original.push(per_call(families, |family| {
-            assert!(black_box(calls.call(&family.raw)).is_ok_and(|made| made == duplexes));
+        original.extend(families.chunks(together).map(|some| {
+            per_call(some, |family| {
+                assert!(black_box(calls.call(&family.raw)).is_ok_and(|made| made == duplexes));
+            })
         }));
     }
     let (exported, original) = (median(exported), median(original));
-    let records = families[0].records.len();
     println!("{records:<36}{exported:>10.0}{original:>10.0}{:>8.2}", exported / original);
 }
 

@@ -1,7 +1,9 @@
--- Record i is the first of the name; the searches give the next ones.
+-- Record i is the first of the name; the search gives the second, and the rest is asked for a third.
+use mathlib.Core.Path.{sym, _∙_}
 use native.Mathlib.Omega.{arith}
-use Rattle.codec_pairing.specs.Pairing.{isPair}
-use Rattle.codec_pairing.proofs.Namesakes.{next-found, none-found}
+use Rattle.codec_pairing.specs.Pairing.{namesakesFrom, isPair}
+use Rattle.codec_pairing.specs.Search.{hasNamesake}
+use Rattle.codec_pairing.proofs.Namesakes.{next-found, none-found, third-found, none-more}
 use borrow.Author.Needs.{needs}
 use Rattle.codec_pairing.proofs.pairing.is_pair.Statement.{statement}
 use Rattle.codec_pairing.proofs.pairing.is_pair.Tie as tie
@@ -24,29 +26,30 @@ returns c =
     let start = c .before .before .before .before .before .before in
     rw (next-found (start .pre .1 .1) (start .pre .1 .0), none-found (c .before .next-namesake .ensures) (c .if1 .taken))
 
-add-next-namesake-2 : tie.Need-add-next-namesake-2
-add-next-namesake-2 c = search needs
+add-has-namesake : tie.Need-add-has-namesake
+add-has-namesake c = search needs
 
-next-namesake-requires-2 : tie.Need-next-namesake-requires-2
-next-namesake-requires-2 c κs = search needs
+has-namesake-requires : tie.Need-has-namesake-requires
+has-namesake-requires c κs = search needs
 
 returns-2 : tie.Need-returns-2
-unfolding isPair
+unfolding hasNamesake namesakesFrom
 returns-2 c =
     let second = c .before .before .before in
     let start = second .before .before .before .before .before in
-    rw (next-found (start .pre .1 .1) (start .pre .1 .0), next-found (second .next-namesake .ensures) (omega arith), next-found (c .before .next-namesake2 .ensures) (c .if2 .taken))
+    let some = sym (c .before .has-namesake .ensures) ∙ c .if2 .taken in
+    rw (next-found (start .pre .1 .1) (start .pre .1 .0), next-found (second .next-namesake .ensures) (omega arith)) (sym (third-found (start .args .verdicts .now) (start .args .i) (second .next-namesake .result) _ some))
 
 shared-slice-read-result : tie.Need-shared-slice-read-result
 shared-slice-read-result c = search needs
 
 returns-3 : tie.Need-returns-3
-unfolding isPair
+unfolding isPair hasNamesake namesakesFrom
 returns-3 c =
-    let third = c .before .before in
-    let second = third .before .before in
+    let second = c .before .before .before .before in
     let start = second .before .before .before .before .before in
-    rw (next-found (start .pre .1 .1) (start .pre .1 .0), next-found (second .next-namesake .ensures) (omega arith), none-found (third .next-namesake2 .ensures) (c .before .if2 .left))
+    let none = none-more _ (sym (c .before .before .has-namesake .ensures) ∙ c .before .if2 .left) in
+    rw (next-found (start .pre .1 .1) (start .pre .1 .0), next-found (second .next-namesake .ensures) (omega arith), none)
 
 pub is-pair-spec : {M : Type 1} → statement M
 is-pair-spec =
@@ -57,8 +60,8 @@ is-pair-spec =
     add-next-namesake
     next-namesake-requires
     returns
-    add-next-namesake-2
-    next-namesake-requires-2
+    add-has-namesake
+    has-namesake-requires
     returns-2
     shared-slice-read-result
     returns-3)

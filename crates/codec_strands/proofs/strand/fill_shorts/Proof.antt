@@ -1,27 +1,23 @@
 -- The first i places are filled; a turn fills one more.
-use mathlib.Core.Path.{_≡_, refl, sym, _∙_}
-use Prim.Native.Nat.{_-_, _≤_}
+use mathlib.Core.Path.{sym, _∙_}
+use Prim.Native.Nat.{_-_}
 use native.Mathlib.Omega.{arith}
 use borrow.Author.Needs.{needs}
-use lib.ListN.{length, getD, replicate, length-set, length-replicate}
-use Rattle.lists.specs.Tabulate.{tabulate}
-use Rattle.lists.specs.Written.{written}
+use lib.ListN.{length, replicate, length-replicate}
 use Rattle.lists.proofs.Places.{getD-repeated}
-use Rattle.lists.proofs.Tabulate.{tabulate-put, tabulate-all}
 use Rattle.lists.proofs.Written.{written-whole}
+use Rattle.codec_strands.proofs.Orientation.{Writing, writing-none, writing-more, writing-all}
 use Rattle.codec_strands.proofs.strand.fill_shorts.Statement.{statement}
 use Rattle.codec_strands.proofs.strand.fill_shorts.Tie as tie
 
 abbrev Inv-loop : tie.InvT-loop
-Inv-loop value out₀ i₀ out i =
-    (i ≤ length out₀) × (length out ≡ length out₀) × (out ≡ written (tabulate (λ k. getD (replicate (length out₀) value) k value) i) out₀)
+Inv-loop value out₀ i₀ out i = Writing (replicate (length out₀) value) out₀ value i out
 
 abbrev μ-loop : tie.MeasureT-loop
 μ-loop value out₀ i₀ out i = length out₀ - i
 
 loop-holds : tie.Need-loop-holds Inv-loop μ-loop
-unfolding tabulate
-loop-holds c = search needs
+loop-holds c = writing-none (replicate (length (c .args .out .now)) (c .args .value)) (c .args .out .now) (c .args .value)
 
 mul-out : tie.Need-mul-out Inv-loop μ-loop
 mul-out c = search needs
@@ -40,7 +36,8 @@ loop-again c =
     let loop = c .before .loop in
     let args = c .before .before .args in
     let old = args .out .now in
-    (search needs, simp length-set (loop .inv .1), tabulate-put (λ k. getD (replicate (length old) (args .value)) k (args .value)) old (loop .i) (search needs) (loop .inv .2) (sym (getD-repeated (length old) (loop .i) (args .value))))
+    let size = length-replicate (length old) (args .value) in
+    writing-more (replicate (length old) (args .value)) old (args .value) (loop .i) (omega (arith, size)) (omega (arith, size)) (loop .inv) (sym (getD-repeated (length old) (loop .i) (args .value)))
 
 same-length : tie.Need-same-length Inv-loop μ-loop
 same-length c = c .before .loop .inv .1
@@ -49,9 +46,8 @@ returns : tie.Need-returns Inv-loop μ-loop
 returns c =
     let args = c .before .before .args in
     let old = args .out .now in
-    let all = replicate (length old) (args .value) in
     let size = length-replicate (length old) (args .value) in
-    tabulate-all all old (args .value) (omega (arith, size)) (c .before .loop .inv .2) ∙ written-whole all old size
+    writing-all (replicate (length old) (args .value)) old (args .value) (omega (arith, size)) (c .before .loop .inv) ∙ written-whole _ old size
 
 pub fill-shorts-spec : {M : Type 1} → statement M
 fill-shorts-spec =

@@ -1,28 +1,23 @@
 -- The first i places are written; a turn writes one more.
 use mathlib.Core.Bool.{cond}
-use mathlib.Core.Path.{_≡_, sym, _∙_, ap}
+use mathlib.Core.Path.{sym, _∙_, ap}
 use Prim.Native.Nat.{_-_, _≤_}
 use native.Mathlib.Omega.{arith}
 use borrow.Author.Needs.{needs}
-use lib.ListN.{length, getD, length-set}
-use Rattle.lists.specs.Tabulate.{tabulate}
-use Rattle.lists.specs.Written.{written}
-use Rattle.lists.proofs.Tabulate.{tabulate-put, tabulate-all}
+use lib.ListN.{length, getD}
 use Rattle.codec_strands.specs.Strands.{complement, turnedBases}
-use Rattle.codec_strands.proofs.Orientation.{bases-at, length-turnedBases}
+use Rattle.codec_strands.proofs.Orientation.{bases-at, length-turnedBases, Writing, writing-none, writing-more, writing-all}
 use Rattle.codec_strands.proofs.strand.turn_bases.Statement.{statement}
 use Rattle.codec_strands.proofs.strand.turn_bases.Tie as tie
 
 abbrev Inv-loop : tie.InvT-loop
-Inv-loop bases reversed out₀ count i₀ out i =
-    (i ≤ length bases) × (length out ≡ length out₀) × (out ≡ written (tabulate (λ k. getD (turnedBases reversed bases) k 0) i) out₀)
+Inv-loop bases reversed out₀ count i₀ out i = (i ≤ length bases) × Writing (turnedBases reversed bases) out₀ 0 i out
 
 abbrev μ-loop : tie.MeasureT-loop
 μ-loop bases reversed out₀ count i₀ out i = length bases - i
 
 loop-holds : tie.Need-loop-holds Inv-loop μ-loop
-unfolding tabulate
-loop-holds c = search needs
+loop-holds c = let args = c .before .before .args in (search needs, writing-none (turnedBases (args .reversed) (args .bases .now)) (args .out .now) 0)
 
 turned-place-requires : tie.Need-turned-place-requires Inv-loop μ-loop
 turned-place-requires c κs = search needs
@@ -47,15 +42,16 @@ loop-again c =
     let loop = c .before .before .before .before .loop in
     let args = c .before .before .before .before .before .before .before .args in
     let value = c .base-turned .ensures ∙ ap (λ k. cond (args .reversed) (complement (getD (args .bases .now) k 0)) (getD (args .bases .now) k 0)) (c .before .before .turned-place .ensures .0) ∙ sym (bases-at (args .reversed) (args .bases .now) (loop .i) (search needs)) in
-    (search needs, simp length-set (loop .inv .1), tabulate-put (λ k. getD (turnedBases (args .reversed) (args .bases .now)) k 0) (args .out .now) (loop .i) (search needs) (loop .inv .2) value)
+    let size = length-turnedBases (args .reversed) (args .bases .now) in
+    (search needs, writing-more (turnedBases (args .reversed) (args .bases .now)) (args .out .now) 0 (loop .i) (omega (arith, size)) (omega (arith, size)) (loop .inv .1) value)
 
 same-length : tie.Need-same-length Inv-loop μ-loop
-same-length c = c .before .loop .inv .1
+same-length c = c .before .loop .inv .1 .1
 
 returns : tie.Need-returns Inv-loop μ-loop
 returns c =
     let args = c .before .before .before .before .args in
-    tabulate-all (turnedBases (args .reversed) (args .bases .now)) (args .out .now) 0 (omega (arith, length-turnedBases (args .reversed) (args .bases .now))) (c .before .loop .inv .2)
+    writing-all (turnedBases (args .reversed) (args .bases .now)) (args .out .now) 0 (omega (arith, length-turnedBases (args .reversed) (args .bases .now))) (c .before .loop .inv .1)
 
 pub turn-bases-spec : {M : Type 1} → statement M
 turn-bases-spec =
