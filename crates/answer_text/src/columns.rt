@@ -2,7 +2,7 @@
 use crate::line::end_line;
 use crate::line::write_field;
 use crate::line::write_words;
-ghost use mathlib.Core.List.{[], _∷_};
+ghost use mathlib.Core.List.{_∷_};
 ghost use Prim.Native.Nat.{_+_, _*_, _≤_};
 ghost use lib.ListN.{length};
 ghost use Rattle.codec_duplex.specs.Columns.{strand};

@@ -8,11 +8,9 @@ use answer_text::line::write_fields;
 use answer_text::line::write_words;
 use codec_family::answer::FamilyAnswer;
 use codec_family::answer::FamilyEnding;
-ghost use mathlib.Core.List.{_++_};
 ghost use Prim.Native.Nat.{_+_, _*_, _≤_};
 ghost use lib.ListN.{length};
 ghost use Rattle.table_text.specs.OutputTable.{Stored};
-ghost use Rattle.table_text.specs.Text.{bytesOf};
 ghost use Rattle.handover_text.specs.Handover.{reasonName, outcomeText, endedText, rejectedText, rejectionsText, handoverText, Listing};
 
 // Room for what is handed over of a family: 78 bytes for how it ended, and 74 for each of 512 records.

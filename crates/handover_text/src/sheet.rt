@@ -9,7 +9,7 @@ use codec_stats::ledger::Ledger;
 use codec_stats::rates::LedgerRates;
 use codec_stats::rates::rates;
 ghost use mathlib.Core.Path.{_≡_};
-ghost use Prim.Native.Nat.{_+_, _*_, _/_, _%_, _≤_, _<_};
+ghost use Prim.Native.Nat.{_+_, _≤_, _<_};
 ghost use lib.ListN.{length};
 ghost use Rattle.table_text.specs.OutputTable.{Stored};
 ghost use Rattle.handover_text.specs.Sheet.{reasonText, reasonsText, fatesText, duplexesText, digitAt, fractionText, ratesText, sheetText};

@@ -1,12 +1,11 @@
 -- The name by the number.
 use mathlib.Core.List.{[]}
-use mathlib.Core.Path.{_≡_, refl}
+use mathlib.Core.Path.{_≡_}
 use Prim.Native.Nat.{ℕ, suc, _≤_, zero-le}
 use native.Mathlib.Decide.{ℕ-discrete}
 use native.Mathlib.Omega.{arith}
 use borrow.Author.Needs.{needs}
 use lib.ListN.{List·getD-eq-default}
-use Rattle.table_text.specs.OutputTable.{Stored}
 use Rattle.handover_text.specs.Handover.{reasonNames, reasonName}
 use Rattle.answer_text.proofs.Lines.{none-stored}
 use Rattle.handover_text.proofs.handover.write_reason.Statement.{statement}

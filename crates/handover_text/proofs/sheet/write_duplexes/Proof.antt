@@ -1,5 +1,5 @@
 -- Five lines, each from where the one before ends.
-use mathlib.Core.List.{List, [], _∷_, _++_}
+use mathlib.Core.List.{[], _∷_, _++_}
 use native.Mathlib.Omega.{arith}
 use borrow.Author.Needs.{needs}
 use Rattle.table_text.specs.Text.{bytesOf}

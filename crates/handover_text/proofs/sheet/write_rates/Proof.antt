@@ -1,5 +1,5 @@
 -- The variant decides which lines are written.
-use mathlib.Core.List.{[], _∷_, _++_}
+use mathlib.Core.List.{_++_}
 use native.Mathlib.Omega.{arith}
 use borrow.Author.Needs.{needs}
 use Rattle.table_text.specs.Text.{bytesOf}
