@@ -16,7 +16,7 @@ use Rattle.caller.specs.declared.refusal.Refusal.{Refusal}
 use Rattle.caller.specs.declared.refusal.Refusal.the-variants.{NoRefusal}
 use Rattle.caller.specs.Refusals.{refusedIf, orElse}
 use Rattle.codec_dispatch.specs.declared.dispatch.Answer.{Answer}
-use Rattle.codec_dispatch.specs.declared.dispatch.Answer.the-variants.{Added, Served, Idle, Refused}
+use Rattle.codec_dispatch.specs.declared.dispatch.Answer.the-variants.{Served, Idle, Refused}
 use Rattle.codec_dispatch.specs.declared.dispatch.Dispatcher.{Dispatcher}
 use Rattle.codec_dispatch.specs.declared.dispatch.Outcome.{Outcome}
 use Rattle.codec_dispatch.specs.Dispatch.{countOf, waits, refusalOfAdd, afterAdd, add, circle, firstOf, next, afterTurn, turn}

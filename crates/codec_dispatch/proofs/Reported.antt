@@ -1,5 +1,5 @@
 -- The same of what a host is told.
-use mathlib.Core.List.{List, [], _∷_, map}
+use mathlib.Core.List.{List, _∷_, map}
 use mathlib.Core.Path.{_≡_, refl, sym, _∙_, ap, subst}
 use mathlib.Core.Bool.{true}
 use Prim.Native.Nat.{ℕ, _≤_}
@@ -7,12 +7,11 @@ use lib.ListN.{length, take}
 use Rattle.codec_dispatch.specs.declared.dispatch.Answer.{Answer}
 use Rattle.codec_dispatch.specs.declared.dispatch.Answer.the-variants.{Added, Served, Idle, Refused}
 use Rattle.codec_dispatch.specs.declared.dispatch.Dispatcher.{Dispatcher}
-use Rattle.codec_dispatch.specs.declared.dispatch.Outcome.{Outcome}
 use Rattle.codec_dispatch.specs.declared.report.DispatchAnswer.{DispatchAnswer}
 use Rattle.codec_dispatch.specs.Dispatch.{waits}
 use Rattle.codec_dispatch.specs.Turns as turns
 use Rattle.codec_dispatch.specs.Turns.{Call, outcomeOf, Turns, turnsOf, isServed}
-use Rattle.codec_dispatch.specs.Reported.{reported, reportedAs, answerOf, Told, none, then}
+use Rattle.codec_dispatch.specs.Reported.{reportedAs, answerOf, Told, none, then}
 use Rattle.codec_dispatch.proofs.Served.{served-within-eight}
 
 answer-as : (answer : Answer) (left : Dispatcher) → answerOf (reportedAs answer left) ≡ answer

@@ -13,7 +13,7 @@ use lib.Dec.{eqb, ltb}
 use lib.ListN.{length, getD, set, take, List·getD-eq-default}
 use lib.Seq.{getD-set-same, getD-set-other}
 use Rattle.codec_dispatch.specs.declared.dispatch.Answer.{Answer}
-use Rattle.codec_dispatch.specs.declared.dispatch.Answer.the-variants.{Added, Served, Refused}
+use Rattle.codec_dispatch.specs.declared.dispatch.Answer.the-variants.{Served, Refused}
 use Rattle.codec_dispatch.specs.declared.dispatch.Dispatcher.{Dispatcher}
 use Rattle.codec_dispatch.specs.declared.dispatch.Outcome.{Outcome}
 use Rattle.codec_dispatch.specs.Dispatch.{countOf, waits, raised, add, circle, firstOf, next, lowered, afterTurn, turn}

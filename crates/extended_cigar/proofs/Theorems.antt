@@ -1,7 +1,7 @@
 -- Document 02, Req 08: what is promised of both ways together.
 use mathlib.Core.Bool.{true, not}
 use mathlib.Core.List.{List}
-use mathlib.Core.Path.{_≡_, _∙_, ap}
+use mathlib.Core.Path.{_≡_, ap}
 use Prim.Native.Nat.{ℕ, _≤_}
 use native.Mathlib.Omega.{arith}
 use lib.ListN.{length, take}

@@ -1,5 +1,4 @@
 // A line of the list: a word, and a number or none.
-ghost use Prim.Native.Nat.{_<_, _^_};
 
 pub fn first_of(line: &[u8]) -> u8 {
     if line.len() == 0 { b' ' } else { line[0] }

@@ -1,6 +1,5 @@
 -- By the test.
 use native.Mathlib.Omega.{arith}
-use borrow.Author.Needs.{needs}
 use borrow.Author.Tests.{eq-eqb, ne-eqb}
 use Rattle.extended_cigar.specs.Extended.{baseWord}
 use Rattle.extended_cigar.proofs.there.base_word.Statement.{statement}
