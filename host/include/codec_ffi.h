@@ -269,4 +269,24 @@ struct codec_ffi_cigar_answer codec_ffi_flatten_cigar(
     const uint32_t *words, size_t words_len,
     uint32_t *output, size_t output_len);
 
+enum codec_ffi_partner_kind {
+    CODEC_FFI_PARTNER_ACCEPTED = 0,
+    CODEC_FFI_PARTNER_WRONG = 1,   /* the first wrong line and its first wrong field: 1 base, 2 quality, 3 depth, 4 error */
+    CODEC_FFI_PARTNER_REFUSED = 2, /* 27: the first malformed line and its table, 1 ours, 2 theirs. 28: unequal numbers of lines */
+};
+
+/* Lines count from 1, the line of the names. Fields that do not belong to the kind are 0. */
+struct codec_ffi_partner_answer {
+    uint32_t kind;
+    uint32_t number;
+    uint64_t line;
+    uint32_t field;
+    uint32_t table;
+};
+
+/* Whether their output table is what the position rules give for our input table. No pointer is null, also for length 0. */
+struct codec_ffi_partner_answer codec_ffi_check_table(
+    const uint8_t *ours, size_t ours_len,
+    const uint8_t *theirs, size_t theirs_len);
+
 #endif

@@ -1,5 +1,5 @@
 //! The proved calls of a CODEC duplex caller, from Rust: a whole family, selection alone, the combining step, the turns of eight
-//! lanes, and both conversions of CIGARs.
+//! lanes, both conversions of CIGARs, and the check of a partner's table.
 //!
 //! [`family`] stands in the place of the original's `consensus_reads_raw`: records and strands in, the duplex, the rejected
 //! records and the next [`Ledger`] out. It takes all room from the caller, allocates nothing and does not panic.
@@ -137,10 +137,23 @@
 //! assert_eq!(extend_cigar(&[a], b"AAAA", b"AAAA", &mut back).map_err(|refusal| refusal.number), Err(24));
 //! # Ok::<(), codec_host::Refusal>(())
 //! ```
+//!
+//! [`check_table`] says whether a partner's output table is what the position rules give for our input table.
+//!
+//! ```
+//! use codec_host::{Check, Table, check_table};
+//!
+//! let ours = b"BA QA DA EA BB QB DB EB\nA 30 5 1 C 20 4 1\n";
+//! assert_eq!(check_table(ours, b"BASE QUAL DEPTH ERR\nA 10 9 4\n"), Check::Accepted);
+//! assert_eq!(check_table(ours, b"BASE QUAL DEPTH ERR\nA 10 8 4\n"), Check::Wrong { line: 2, field: 3 });
+//! assert_eq!(check_table(ours, b"BASE QUAL DEPTH ERR\n"), Check::UnequalLines);
+//! assert_eq!(check_table(ours, ours), Check::Malformed { table: Table::Theirs, line: 1 });
+//! ```
 
 mod cigar;
 mod dispatch;
 mod family;
+mod partner;
 mod room;
 mod select;
 mod sys;
@@ -151,6 +164,7 @@ pub use dispatch::{Dispatcher, LANES, Turn};
 pub use family::{
     Ending, FamilyAnswer, LIST_PLACES, Ledger, Lent, MARK_WORDS, Rates, Reason, Refusal, family,
 };
+pub use partner::{Check, Table, check_table};
 pub use room::Room;
 pub use select::{MAX_RECORDS, Marks, Options, Record, Selection, select};
 

@@ -91,7 +91,23 @@ pub struct CigarAnswer {
     pub count: u64,
 }
 
+#[repr(C)]
+pub struct PartnerAnswer {
+    pub kind: u32,
+    pub number: u32,
+    pub line: u64,
+    pub field: u32,
+    pub table: u32,
+}
+
 unsafe extern "C" {
+    pub fn codec_ffi_check_table(
+        ours: *const u8,
+        ours_len: usize,
+        theirs: *const u8,
+        theirs_len: usize,
+    ) -> PartnerAnswer;
+
     pub fn codec_ffi_fresh_dispatcher() -> Dispatcher;
 
     pub fn codec_ffi_add(dispatcher: Dispatcher, lane: u32) -> DispatchAnswer;

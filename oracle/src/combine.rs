@@ -119,15 +119,20 @@ pub fn with_program(program: &str, seed: u64, positions: usize) -> Result<(), St
     Ok(())
 }
 
-/// The program duplex-table, on tables without limits of at most 2,048 positions.
-pub fn with_table_program(program: &str, seed: u64, positions: usize) -> Result<(), String> {
+/// Pairs that a table can hold, without limits.
+pub fn tables(seed: u64, positions: usize) -> Vec<Pair> {
     let named =
         |pair: &Pair| pair.strands.iter().all(|s| s.bases.iter().all(|b| b"ACGTNn".contains(b)));
     let open = |mut pair: Pair| {
         (pair.max_disagreements, pair.max_rate) = (u64::MAX, f64::NAN);
         pair
     };
-    let pairs: Vec<Pair> = generated(seed, positions).into_iter().filter(named).map(open).collect();
+    generated(seed, positions).into_iter().filter(named).map(open).collect()
+}
+
+/// The program duplex-table, on tables without limits of at most 2,048 positions.
+pub fn with_table_program(program: &str, seed: u64, positions: usize) -> Result<(), String> {
+    let pairs = tables(seed, positions);
     for pair in &pairs {
         let differs = |pair: &Pair| {
             let input = text::table::write_input(&pair.strands);

@@ -8,6 +8,7 @@ pub mod compare;
 pub mod driver;
 pub mod generate;
 pub mod model;
+pub mod partner;
 pub mod plain;
 pub mod refusal;
 pub mod sample;

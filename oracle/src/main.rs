@@ -4,7 +4,7 @@ use oracle::answers::{Answerer, Form, written};
 use oracle::model::Call;
 use oracle::plain::Reader;
 use oracle::plain::wrong::ALL;
-use oracle::{bite, combine, compare, generate, sample, text};
+use oracle::{bite, combine, compare, generate, partner, sample, text};
 use std::io::{Read, Write};
 
 const USAGE: &str = "usage, FORM being family or select:
@@ -23,7 +23,8 @@ const USAGE: &str = "usage, FORM being family or select:
   oracle against FORM PROGRAM SEED N     original and a program on N families
   oracle against-list FORM PROGRAM FILE  the same on the families of a file
   oracle against-columns PROGRAM SEED N  original and a program for the C form on N positions
-  oracle against-table PROGRAM SEED N    original and duplex-table on N positions";
+  oracle against-table PROGRAM SEED N    original and duplex-table on N positions
+  oracle against-partner PROGRAM SEED N  second reader and check_table on N positions and broken copies of them";
 
 fn main() {
     let words: Vec<String> = std::env::args().skip(1).collect();
@@ -98,6 +99,9 @@ fn compare(words: &[&str]) -> Done {
         }
         ["against-table", program, seed, n] => {
             combine::with_table_program(program, seed.parse().ok()?, n.parse().ok()?)
+        }
+        ["against-partner", program, seed, n] => {
+            partner::with_program(program, seed.parse().ok()?, n.parse().ok()?)
         }
         _ => return None,
     })

@@ -1,5 +1,6 @@
 pub mod Answer
 pub mod Bytes
+pub mod Partner
 pub mod Rates
 pub mod Select
 pub mod Words

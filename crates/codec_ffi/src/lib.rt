@@ -1,10 +1,11 @@
-// What a Rust or C host calls: the combining step through numbers and byte slices; on a slice of records, selection alone and the family call; the ledger's rates; the turns of eight lanes; both conversions of CIGARs.
+// What a Rust or C host calls: the combining step through numbers and byte slices; on a slice of records, selection alone and the family call; the ledger's rates; the turns of eight lanes; both conversions of CIGARs; the check of a partner's table.
 pub mod answer;
 pub mod cigar;
 pub mod columns;
 pub mod combine;
 pub mod dispatch;
 pub mod family;
+pub mod partner;
 pub mod rates;
 pub mod select;
 pub mod words;

@@ -10,8 +10,8 @@ use Rattle.table_text.specs.OutputTable.{outputTable}
 use Rattle.table_text.specs.Text.{bytesOf, space, lineFeed}
 use Rattle.table_text.specs.declared.duplex.TableAnswer.{TableAnswer}
 use Rattle.table_text.specs.declared.duplex.TableAnswer.the-variants as answers
-use Rattle.table_text.specs.declared.input_table.Checked.{Checked}
-use Rattle.table_text.specs.declared.input_table.Checked.the-variants as checked
+use Rattle.table_text.specs.declared.reading.Checked.{Checked}
+use Rattle.table_text.specs.declared.reading.Checked.the-variants as checked
 
 -- a refusal's number in document 01's table and what it gives with it; or none
 pub data Refusal : Type 0 where

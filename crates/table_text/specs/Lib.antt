@@ -2,7 +2,9 @@ pub mod Decimal
 pub mod Duplex
 pub mod Fields
 pub mod InputTable
+pub mod OutputReading
 pub mod OutputTable
 pub mod Parts
+pub mod Reading
 pub mod Rows
 pub mod Text

@@ -1,7 +1,7 @@
 -- A text taken apart at a byte.
 use mathlib.Core.Bool.{cond}
 use mathlib.Core.List.{List, [], _∷_}
-use Prim.Native.Nat.{ℕ}
+use Prim.Native.Nat.{ℕ, suc}
 use lib.Dec.{eqb}
 
 -- parts that are each ended by the byte, and what stands after the last of them
@@ -18,3 +18,8 @@ inFront b (ended part more) = ended (b ∷ part) more
 unfoldable pub parts : ℕ → List ℕ → Parts
 parts byte [] = last []
 parts byte (b ∷ bs) = cond (eqb b byte) (ended [] (parts byte bs)) (inFront b (parts byte bs))
+
+-- how many parts are ended by the byte
+unfoldable pub endedParts : Parts → ℕ
+endedParts (last part) = 0
+endedParts (ended part more) = suc (endedParts more)

@@ -1,7 +1,7 @@
 // duplex-table: an input table in, the output table or a refusal out.
 use crate::input_table;
-use crate::input_table::Checked;
 use crate::output_table;
+use crate::reading::Checked;
 ghost use mathlib.Core.Path.{_≡_};
 ghost use Prim.Native.Nat.{_≤_};
 ghost use lib.ListN.{length};

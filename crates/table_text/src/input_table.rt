@@ -1,58 +1,36 @@
 // The input table of duplex-table: its names, its rows, and its first malformed line.
-use crate::parts;
 use crate::position;
 use crate::position::Row;
+use crate::reading;
+use crate::reading::Checked;
+use crate::reading::LineEnd;
+use crate::reading::Names;
 use codec_duplex::position::Position;
 ghost use mathlib.Core.Path.{_≡_};
 ghost use Prim.Native.Nat.{_≤_, _<_};
 ghost use lib.ListN.{length};
-ghost use Rattle.table_text.specs.InputTable.{NamesRead, NextRead, tableOf, tableFrom};
-
-// The names and 2,048 positions.
-pub const LAST_LINE: usize = 2049;
-
-pub enum Names {
-    Until(usize),
-    Wrong,
-}
+ghost use Rattle.table_text.specs.InputTable.{InputNames, NextRead, tableOf, tableFrom};
 
 pub enum NextRow {
     Row(Position, Position, usize),
     Malformed,
 }
 
-pub enum Checked {
-    WellFormed,
-    Malformed(usize),
-}
-
 // Where the first line after the names begins.
-pub(crate) fn after_names(input: &[u8]) -> Names
-    ensures { λ r. ⌜ NamesRead (now (input .entry)) r ⌝ }
+pub fn after_names(input: &[u8]) -> Names
+    ensures { λ r. ⌜ InputNames (now (input .entry)) r ⌝ }
 {
-    let end = parts::part_end(input, 0, b'\n');
-    if end == input.len() {
-        return Names::Wrong;
-    }
-    if check::same(&input[0..end], b"BA QA DA EA BB QB DB EB") {
-        Names::Until(end + 1)
-    } else {
-        Names::Wrong
-    }
+    reading::after_names(input, b"BA QA DA EA BB QB DB EB")
 }
 
 // The row of the line that begins at `at`, and where the line after it begins.
-pub(crate) fn next_row(input: &[u8], line: usize, at: usize) -> NextRow
+pub fn next_row(input: &[u8], line: usize, at: usize) -> NextRow
     requires { ⌜ at < length (now input) ⌝ }
     ensures { λ r. ⌜ NextRead (now (input .entry)) line at r ⌝ }
 {
-    if LAST_LINE < line {
+    let LineEnd::At(end) = reading::line_end(input, line, at) else {
         return NextRow::Malformed;
-    }
-    let end = parts::part_end(input, at, b'\n');
-    if input.len() <= end {
-        return NextRow::Malformed;
-    }
+    };
     let Row::Pair(first, second) = position::read_row(&input[at..end]) else {
         return NextRow::Malformed;
     };

@@ -1,8 +1,8 @@
 // The output table of duplex-table: its names and a line for each position.
 use crate::decimal;
 use crate::input_table;
-use crate::input_table::Names;
 use crate::input_table::NextRow;
+use crate::reading::Names;
 use codec_duplex::position;
 use codec_duplex::position::Position;
 ghost use mathlib.Core.Path.{_≡_};

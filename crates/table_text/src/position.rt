@@ -1,14 +1,20 @@
-// One position as four fields of a line, and the two positions of an input line.
+// One position as four fields of a line, the one of an output line, and the two of an input line.
 use crate::fields;
 use crate::fields::BaseField;
 use crate::fields::NumberField;
 use codec_duplex::position::Position;
 ghost use mathlib.Core.Path.{_≡_};
 ghost use Rattle.table_text.specs.Fields.{fieldsFrom};
+ghost use Rattle.table_text.specs.OutputReading.{aloneLine, positionLine};
 ghost use Rattle.table_text.specs.Rows.{positionFields, positionIn, rowOf};
 
 pub enum PositionFields {
     Found(Position, usize),
+    Malformed,
+}
+
+pub enum Alone {
+    Position(Position),
     Malformed,
 }
 
@@ -40,6 +46,19 @@ pub fn read_position(line: &[u8], at: usize) -> PositionFields
         error: error as u16,
     };
     PositionFields::Found(position, next)
+}
+
+// A line of the output table: one position and nothing after it.
+pub fn read_alone(line: &[u8]) -> Alone
+    ensures { λ r. ⌜ aloneLine r ≡ positionLine (now (line .entry)) ⌝ }
+{
+    let PositionFields::Found(position, after) = read_position(line, 0) else {
+        return Alone::Malformed;
+    };
+    if after <= line.len() {
+        return Alone::Malformed;
+    }
+    Alone::Position(position)
 }
 
 // A line of the input table: two positions and nothing after them.

@@ -50,6 +50,11 @@ fn a_c_program_converts_cigars() {
 }
 
 #[test]
+fn a_c_program_checks_a_table() {
+    runs("partner");
+}
+
+#[test]
 fn a_c_program_calls_a_family() {
     let output = run("examples/family.c");
     assert!(output.status.success());

@@ -10,6 +10,7 @@ mod family_call;
 mod family_list;
 mod family_refusals;
 mod limits;
+mod partner;
 mod positions;
 mod rates;
 mod selection;

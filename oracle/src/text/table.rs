@@ -7,37 +7,54 @@ const NAMES_IN: &str = "BA QA DA EA BB QB DB EB";
 const NAMES_OUT: &str = "BASE QUAL DEPTH ERR";
 const MOST: usize = 2_048;
 
+/// Base, quality, depth, error.
+pub type Place = (u8, u8, u16, u16);
+
 /// Both strands, or the number of the first malformed line.
 pub fn read(text: &str) -> Result<[Strand; 2], usize> {
-    let mut strands = [Strand::default(), Strand::default()];
-    let mut lines = text.split_inclusive('\n').enumerate();
-    let names = lines.next().and_then(|(_, line)| line.strip_suffix('\n'));
-    if names != Some(NAMES_IN) {
-        return Err(1);
-    }
-    for (index, line) in lines {
-        let places = line.strip_suffix('\n').and_then(positions).filter(|_| index <= MOST);
-        for (strand, place) in strands.iter_mut().zip(places.ok_or(index + 1)?) {
-            strand.bases.push(place.0);
-            strand.quals.push(place.1);
-            strand.depths.push(place.2);
-            strand.errors.push(place.3);
-        }
-    }
-    Ok(strands)
+    let rows: Vec<[Place; 2]> = rows(text, NAMES_IN)?;
+    Ok([0, 1].map(|side| strand(rows.iter().map(|row| row[side]))))
 }
 
-type Place = (u8, u8, u16, u16);
+/// The positions of an output table, or the number of its first malformed line.
+pub fn read_output(text: &str) -> Result<Strand, usize> {
+    let rows: Vec<[Place; 1]> = rows(text, NAMES_OUT)?;
+    Ok(strand(rows.into_iter().flatten()))
+}
 
-fn positions(line: &str) -> Option<[Place; 2]> {
-    let fields: Vec<&str> = line.split(' ').collect();
-    if fields.len() != 8 {
-        return None;
+fn rows<const N: usize>(text: &str, names: &str) -> Result<Vec<[Place; N]>, usize> {
+    let mut lines = text.split_inclusive('\n').enumerate();
+    if lines.next().and_then(|(_, line)| line.strip_suffix('\n')) != Some(names) {
+        return Err(1);
     }
-    Some([place(&fields[..4])?, place(&fields[4..])?])
+    let row = |(index, line): (usize, &str)| {
+        let places = line.strip_suffix('\n').and_then(positions).filter(|_| index <= MOST);
+        places.ok_or(index + 1)
+    };
+    lines.map(row).collect()
+}
+
+fn strand(places: impl Iterator<Item = Place>) -> Strand {
+    let mut strand = Strand::default();
+    for (base, quality, depth, error) in places {
+        strand.bases.push(base);
+        strand.quals.push(quality);
+        strand.depths.push(depth);
+        strand.errors.push(error);
+    }
+    strand
+}
+
+fn positions<const N: usize>(line: &str) -> Option<[Place; N]> {
+    let fields: Vec<&str> = line.split(' ').collect();
+    let places: Option<Vec<Place>> = fields.chunks(4).map(place).collect();
+    places?.try_into().ok()
 }
 
 fn place(fields: &[&str]) -> Option<Place> {
+    if fields.len() != 4 {
+        return None;
+    }
     let base = fields[0].as_bytes();
     let known = base.len() == 1 && b"ACGTNn".contains(&base[0]);
     let quality = u8::try_from(decimal(fields[1])?).ok()?;

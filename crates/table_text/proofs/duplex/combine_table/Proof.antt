@@ -6,7 +6,7 @@ use Rattle.table_text.specs.Duplex.{answerAt, tableAnswer}
 use Rattle.table_text.specs.InputTable.{Reading}
 use Rattle.table_text.specs.OutputTable.{outputTable}
 use Rattle.table_text.specs.declared.duplex.TableAnswer.the-variants.{Written}
-use Rattle.table_text.specs.declared.input_table.Checked.{Checked}
+use Rattle.table_text.specs.declared.reading.Checked.{Checked}
 use Rattle.table_text.proofs.duplex.combine_table.Statement.{statement}
 use Rattle.table_text.proofs.duplex.combine_table.Tie as tie
 

@@ -12,8 +12,8 @@ use Rattle.table_text.specs.InputTable.{Reading, tableOf}
 use Rattle.table_text.specs.OutputTable.{outputTable, Front}
 use Rattle.table_text.specs.declared.duplex.TableAnswer.{TableAnswer}
 use Rattle.table_text.specs.declared.duplex.TableAnswer.the-variants.{Written, Malformed}
-use Rattle.table_text.specs.declared.input_table.Checked.{Checked}
-use Rattle.table_text.specs.declared.input_table.Checked.the-variants as checked
+use Rattle.table_text.specs.declared.reading.Checked.{Checked}
+use Rattle.table_text.specs.declared.reading.Checked.the-variants as checked
 use Rattle.table_text.proofs.duplex.duplex_table.Statement.{statement}
 use Rattle.table_text.proofs.duplex.duplex_table.Tie as tie
 

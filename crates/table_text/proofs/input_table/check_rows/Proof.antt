@@ -4,7 +4,7 @@ use Prim.Native.Nat.{_-_, _≤_}
 use native.Mathlib.Omega.{arith}
 use borrow.Author.Needs.{needs}
 use lib.ListN.{length}
-use Rattle.table_text.specs.InputTable.{Reading, tableFrom, NextRead}
+use Rattle.table_text.specs.InputTable.{Reading, inputLine, tableFrom, NextRead}
 use Rattle.table_text.specs.declared.input_table.NextRow.the-variants.{Row}
 use Rattle.table_text.proofs.Tables.{table-end}
 use Rattle.table_text.proofs.input_table.check_rows.Statement.{statement}
@@ -48,7 +48,7 @@ loop-again : tie.Need-loop-again Inv-loop μ-loop
 loop-again c = (row-read c .2, c .before .before .before .before .before .loop .inv .1 ∙ ap (λ (r : Reading). r .ending) (row-read c .3))
 
 returns-2 : tie.Need-returns-2 Inv-loop μ-loop
-returns-2 c = sym (c .before .loop .inv .1 ∙ ap (λ (r : Reading). r .ending) (table-end _ _ _ (c .loop-test .left)))
+returns-2 c = sym (c .before .loop .inv .1 ∙ ap (λ (r : Reading). r .ending) (table-end inputLine _ _ _ (c .loop-test .left)))
 
 pub check-rows-spec : {M : Type 1} → statement M
 check-rows-spec =

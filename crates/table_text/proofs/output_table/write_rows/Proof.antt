@@ -7,7 +7,7 @@ use borrow.Author.Needs.{needs}
 use lib.ListN.{length}
 use lib.Seq.{sets}
 use Rattle.codec_duplex.specs.Position.{combined}
-use Rattle.table_text.specs.InputTable.{Reading, tableFrom, NextRead}
+use Rattle.table_text.specs.InputTable.{Reading, inputLine, tableFrom, NextRead}
 use Rattle.table_text.specs.OutputTable.{positionText, rowsText, Stored}
 use Rattle.table_text.specs.declared.input_table.NextRow.the-variants.{Row}
 use Rattle.table_text.proofs.Stores.{stored-more}
@@ -96,7 +96,7 @@ same-length-2 c = c .before .loop .inv .4
 
 returns-2 : tie.Need-returns-2 Inv-loop μ-loop
 unfolding rowsText
-returns-2 c = (all-stored (c .before) (ap (λ (r : Reading). rowsText (r .rows)) (table-end _ _ _ (c .loop-test .left))), omega arith)
+returns-2 c = (all-stored (c .before) (ap (λ (r : Reading). rowsText (r .rows)) (table-end inputLine _ _ _ (c .loop-test .left))), omega arith)
 
 pub write-rows-spec : {M : Type 1} → statement M
 write-rows-spec =

@@ -1,0 +1,11 @@
+pub mod Accepting
+pub mod Digits
+pub mod Exactly
+pub mod InRange
+pub mod Instance
+pub mod Lines
+pub mod LowerN
+pub mod OneText
+pub mod OwnTable
+pub mod ReadBack
+pub mod Spelling
