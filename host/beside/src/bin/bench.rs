@@ -43,7 +43,10 @@ fn main() {
     let sizes = [2, 4, 8, 32, 128, MAX_RECORDS];
     let families = sizes.map(|records| (0..PAIRS).map(|_| family_of(&mut rng, records)).collect());
     families.iter().for_each(|families: &Vec<Family>| report_family(families));
-    println!("{:<36}{:>10}{:>10}{:>8}", "selection alone, records", "exported", "original", "ratio");
+    println!(
+        "{:<36}{:>10}{:>10}{:>8}",
+        "selection alone, records", "exported", "original", "ratio"
+    );
     families.iter().for_each(|families| report_selection(families));
     report_rates(&mut rng);
 }
