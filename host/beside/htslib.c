@@ -1,6 +1,7 @@
 /*
- * Holds selection alone against htslib: htslib SEED CIGARS. Of random operations the read and reference length, of an
- * alignment each read position, of random flags pairing, side and orientation. Ends in 1 at the first difference.
+ * Holds the exported calls against htslib: htslib SEED CIGARS. Through selection alone: of random operations the read and
+ * reference length, of an alignment each read position, of random flags pairing, side and orientation. Of both conversions of CIGARs
+ * the lengths of what they are given and what they give. Ends in 1 at the first difference.
  *
  * A second read of one base, 1M at a place q, makes the window q to q, so that the length answered is the first read's position at q.
  */
@@ -114,11 +115,29 @@ static uint32_t operation(const char *kinds) {
     return bam_cigar_gen((uint32_t)(1 + draw(12)), (uint32_t)(strchr(BAM_CIGAR_STR, kinds[draw(strlen(kinds))]) - BAM_CIGAR_STR));
 }
 
-/* Any operations in any order. */
-static int any(uint32_t *ops) {
+/* Any operations of these kinds, in any order. */
+static int any(const char *kinds, uint32_t *ops) {
     const int count = (int)(1 + draw(MOST));
-    for (int i = 0; i < count; i++) ops[i] = operation("MIDNSHP=X");
+    for (int i = 0; i < count; i++) ops[i] = operation(kinds);
     return count;
+}
+
+/* There and back keeps the read and the reference length, whatever the bases. */
+static void conversions(const uint32_t *ops, int count) {
+    static uint8_t read[1024], reference[1024];
+    static uint32_t extended[2048], plain[2048];
+    const int64_t bases = bam_cigar2qlen(count, ops), under = bam_cigar2rlen(count, ops);
+    for (int i = 0; i < 1024; i++) read[i] = "ACGT"[draw(4)], reference[i] = "ACGT"[draw(4)];
+    const struct codec_ffi_cigar_answer there = codec_ffi_extend_cigar(ops, (size_t)count, read, (size_t)bases, reference, (size_t)under, extended, 2048);
+    if (there.kind != CODEC_FFI_CIGAR_WRITTEN) differs("extended list", ops, count, 0, -(long)there.number);
+    const struct codec_ffi_cigar_answer back = codec_ffi_flatten_cigar(extended, there.count, plain, 2048);
+    if (back.kind != CODEC_FFI_CIGAR_WRITTEN) differs("plain list", ops, count, 0, -(long)back.number);
+    const uint32_t *lists[] = {extended, plain};
+    const int counts[] = {(int)there.count, (int)back.count};
+    for (int i = 0; i < 2; i++) {
+        if (bam_cigar2qlen(counts[i], lists[i]) != bases) differs("read length after conversion", ops, count, bases, bam_cigar2qlen(counts[i], lists[i]));
+        if (bam_cigar2rlen(counts[i], lists[i]) != under) differs("reference length after conversion", ops, count, under, bam_cigar2rlen(counts[i], lists[i]));
+    }
 }
 
 /* Clips at the ends, matches next to them, anything between. */
@@ -141,14 +160,15 @@ int main(int words, char **word) {
     uint32_t ops[2 * MOST];
     state = words > 1 ? strtoull(word[1], NULL, 10) : 1;
     for (long i = 0; i < cigars; i++) {
-        int count = any(ops);
+        int count = any("MIDNSHP=X", ops);
         ops[count] = bam_cigar_gen(1, BAM_CMATCH);
         lengths(ops, count);
         count = alignment(ops);
         ops[count] = bam_cigar_gen(1, BAM_CMATCH);
         positions(ops, count);
         flags();
+        conversions(ops, any("MIDNSHP", ops));
     }
-    printf("htslib %s: %ld random CIGARs, alignments and flags: no difference\n", hts_version(), cigars);
+    printf("htslib %s: %ld random CIGARs, alignments, flags and conversions: no difference\n", hts_version(), cigars);
     return 0;
 }
