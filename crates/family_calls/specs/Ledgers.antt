@@ -1,0 +1,59 @@
+-- The text form: 'a list of family calls that share one ledger, in order'.
+use mathlib.Core.Bool.{cond}
+use mathlib.Core.List.{List}
+use mathlib.Core.Path.{_≡_}
+use Prim.Native.Nat.{ℕ}
+use lib.Dec.{ltb}
+use lib.ListN.{take, replicate}
+use Rattle.codec_family.specs.Call.{Call}
+use Rattle.codec_family.specs.Counted.{afterCall}
+use Rattle.codec_family.specs.declared.room.Room.{Room}
+use Rattle.codec_family.specs.declared.room.Widths.{Widths}
+use Rattle.codec_select.specs.Records.{blank}
+use Rattle.codec_select.specs.declared.records.Record.{Record}
+use Rattle.codec_stats.specs.Ledger.{Counts}
+use Rattle.family_text.specs.Family.{Family, call, noMore, callOf}
+use Rattle.family_text.specs.Ledgers.{ledgersFrom}
+use Rattle.family_text.specs.Reading.{got}
+use Rattle.family_text.specs.declared.header.Header.{Header}
+use Rattle.table_text.specs.Parts.{Parts}
+
+-- 'COLS, LIST and MARKS are the lengths of the lent result columns, list columns and marks'
+abbrev pub alike : ℕ → Widths
+alike n = record { bases = n; quals = n; depths = n; errors = n }
+
+abbrev pub roomFor : Header → Room
+roomFor h =
+    record {
+      duplex = alike (h .columns);
+      r1 = alike (h .columns);
+      r2 = alike (h .columns);
+      «listed_records» = h .list;
+      «listed_reasons» = h .list;
+      marks = h .marks;
+    }
+
+-- a family's records; more than 512 are refused whatever they are, and blank ones stand for them
+abbrev pub recordsOf : List Record → ℕ → List Record
+recordsOf table len = cond (ltb 512 len) (replicate len blank) (take len table)
+
+-- the call that a family of the text is
+abbrev pub callFor : Family → Call
+callFor f =
+    record {
+      records = recordsOf (f .table) (f .header .records);
+      ops = f .words;
+      options = f .header .options;
+      hasR1 = f .header .«has_r1»;
+      r1 = f .r1;
+      hasR2 = f .header .«has_r2»;
+      r2 = f .r2;
+      room = roomFor (f .header);
+    }
+
+-- from a ledger and the lines of a text to a later ledger and the lines left: a line of figures sets the ledger, a family counts
+pub data Goes (ledger : Counts) (text : Parts) : Counts → Parts → Type 0 where
+  here : Goes ledger text ledger text
+  end : {before after : Counts} {lines rest : Parts} → Goes ledger text before lines → callOf before lines ≡ got (noMore after) rest → Goes ledger text after rest
+  figures : {before after : Counts} {lines rest : Parts} → Goes ledger text before lines → ledgersFrom before lines ≡ got after rest → Goes ledger text after rest
+  family : {before handed : Counts} {f : Family} {lines rest : Parts} → Goes ledger text before lines → callOf before lines ≡ got (call handed f) rest → Goes ledger text (afterCall (callFor f) handed) rest

@@ -1,0 +1,3 @@
+pub mod Ledgers
+pub mod Places
+pub mod Written
