@@ -1,0 +1,7 @@
+// The program handover: reads families as text from standard input, or from each file that an argument names, and writes for people
+// the families that gave no duplex, with their rejected records, and behind them the sheet of the ledger.
+use family_calls::files;
+
+fn main() {
+    files::run(true);
+}
