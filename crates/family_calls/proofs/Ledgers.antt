@@ -15,8 +15,7 @@ use Rattle.codec_family.specs.declared.room.Room.{Room}
 use Rattle.codec_stats.specs.Ledger.{Counts}
 use Rattle.family_text.specs.Family.{Family}
 use Rattle.family_text.specs.Ledgers.{ledgersFrom}
-use Rattle.family_text.specs.Reading.{Steps}
-use Rattle.family_text.specs.Reading.{linesFrom}
+use Rattle.family_text.specs.Reading.{Steps, linesFrom}
 use Rattle.family_text.specs.declared.header.Header.{Header}
 use Rattle.family_text.specs.declared.lines.Next.{Next}
 use Rattle.family_text.specs.declared.lines.Stop.{Stop}

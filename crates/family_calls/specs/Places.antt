@@ -2,7 +2,7 @@
 use mathlib.Core.Bool.{Bool, true}
 use mathlib.Core.List.{List}
 use mathlib.Core.Path.{_≡_}
-use Prim.Native.Nat.{ℕ, _≤_, _<_}
+use Prim.Native.Nat.{ℕ, _≤_}
 use Rattle.codec_family.specs.declared.answer.FamilyAnswer.{FamilyAnswer}
 use Rattle.codec_stats.specs.Ledger.{Counts}
 use Rattle.family_text.specs.Reading.{linesFrom, stopPlace}

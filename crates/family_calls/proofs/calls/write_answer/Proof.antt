@@ -1,5 +1,4 @@
 -- The flag picks the writer, and what is handed over is shorter than an answer.
-use Prim.Native.Nat.{_≤_}
 use native.Mathlib.Omega.{arith}
 use borrow.Author.Needs.{needs}
 use Rattle.family_calls.proofs.calls.write_answer.Statement.{statement}
