@@ -1,12 +1,19 @@
 -- The fields are asked in their order.
+use mathlib.Core.Path.{_≡_}
 use borrow.Author.Tests.{eq-eqb, ne-eqb}
+use Rattle.codec_duplex.specs.declared.position.Position.{Position}
 use Rattle.partner_table.specs.Check.{firstWrongField}
+use Rattle.partner_table.specs.declared.compare.Fault.the-variants.{Field}
 use Rattle.partner_table.proofs.compare.first_wrong_field.Statement.{statement}
 use Rattle.partner_table.proofs.compare.first_wrong_field.Tie as tie
 
-returns : tie.Need-returns
+-- the base goes first
+base-wrong : (right given : Position) → (right .base ≡ given .base → ⊥) → Field 1 ≡ firstWrongField right given
 unfolding firstWrongField
-returns c = rw (ne-eqb _ _ (c .if1 .taken))
+base-wrong right given other = rw (ne-eqb (right .base) (given .base) other)
+
+returns : tie.Need-returns
+returns c = base-wrong (c .before .before .before .args .right) (c .before .before .before .args .given) (c .if1 .taken)
 
 returns-2 : tie.Need-returns-2
 unfolding firstWrongField
