@@ -1,1 +1,2 @@
+pub mod CallsAlone
 pub mod Laws

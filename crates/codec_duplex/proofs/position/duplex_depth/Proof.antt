@@ -18,8 +18,8 @@ chosen false false a b = refl
 pick-u16-requires : tie.Need-pick-u16-requires
 pick-u16-requires c κs = search needs
 
-both-depth-requires : tie.Need-both-depth-requires
-both-depth-requires c κs = search needs
+capped-sum-requires : tie.Need-capped-sum-requires
+capped-sum-requires c κs = search needs
 
 pick-u16-requires-2 : tie.Need-pick-u16-requires-2
 pick-u16-requires-2 c κs = search needs
@@ -37,7 +37,7 @@ duplex-depth-spec =
     tie.close
     (tie.spec
     pick-u16-requires
-    both-depth-requires
+    capped-sum-requires
     pick-u16-requires-2
     pick-u16-requires-3
     returns)
