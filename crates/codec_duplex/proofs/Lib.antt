@@ -1,2 +1,2 @@
-pub mod CallsAlone
+pub mod BasesAlone
 pub mod Laws

@@ -29,10 +29,6 @@ abbrev pub positionAt : Strand → ℕ → Position
 positionAt s i =
     record { base = getD (s .bases) i 0; quality = getD (s .quals) i 0; depth = getD (s .depths) i 0; error = getD (s .errors) i 0 }
 
--- a strand's calls alone, of depth 0 and error 0
-abbrev pub calls : (bases quals : List ℕ) → Strand
-calls bases quals = strand bases quals [] []
-
 -- one field of the duplex at position i
 unfoldable pub fieldAt : (Position → ℕ) → Strand → Strand → ℕ → ℕ
 fieldAt field a b i = field (combined (positionAt a i) (positionAt b i))
@@ -66,8 +62,3 @@ pub record Filled (a b : Strand) (before after : Duplex) : Type 0 where
   pub quals : after .quals ≡ written (combinedColumn Position.quality a b) (before .quals)
   pub depths : after .depths ≡ written (combinedColumn Position.depth a b) (before .depths)
   pub errors : after .errors ≡ written (combinedColumn Position.error a b) (before .errors)
-
--- the duplex fills the first places of two of them
-pub record FilledCalls (a b : Strand) (bases quals newBases newQuals : List ℕ) : Type 0 where
-  pub filledBases : newBases ≡ written (combinedColumn Position.base a b) bases
-  pub filledQuals : newQuals ≡ written (combinedColumn Position.quality a b) quals

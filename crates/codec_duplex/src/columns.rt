@@ -1,5 +1,5 @@
 // The columns of a duplex.
-use crate::calls::combine_calls;
+use crate::bases::combine_bases;
 use crate::position::Position;
 use crate::position::combine;
 ghost use mathlib.Core.List.{[], _∷_};
@@ -68,7 +68,7 @@ pub fn combine_columns(
         (duplex (now (bases .exit)) (now (quals .exit)) (now (depths .exit)) (now (errors .exit)))
         ⌝ }
 {
-    combine_calls(a_bases, a_quals, b_bases, b_quals, bases, quals);
+    combine_bases(a_bases, a_quals, b_bases, b_quals, bases, quals);
     let mut i = 0;
     while i < a_bases.len() {
         let a = position_at(a_bases, a_quals, a_depths, a_errors, i);

@@ -1,7 +1,7 @@
 // The columns of a duplex, with depths and errors as byte pairs.
 use crate::words::put_word;
 use crate::words::word_at;
-use codec_duplex::calls::combine_calls;
+use codec_duplex::bases::combine_bases;
 use codec_duplex::position::Position;
 use codec_duplex::position::combine;
 ghost use mathlib.Core.List.{[], _∷_};
@@ -57,7 +57,7 @@ pub fn combine_bytes(
         (duplex (now (bases .exit)) (now (quals .exit)) (now (depths .exit)) (now (errors .exit)))
         ⌝ }
 {
-    combine_calls(a_bases, a_quals, b_bases, b_quals, bases, quals);
+    combine_bases(a_bases, a_quals, b_bases, b_quals, bases, quals);
     let mut i = 0;
     while i < a_bases.len() {
         let a = position_at(a_bases, a_quals, a_depths, a_errors, i);

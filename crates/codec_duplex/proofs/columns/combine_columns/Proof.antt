@@ -1,4 +1,4 @@
--- The calls are written first; then the first i positions of the other results, and a turn writes one more.
+-- Bases and qualities are written first; then the first i positions of the other results, and a turn writes one more.
 use mathlib.Core.Path.{_≡_, _∙_, ap, ap₂}
 use Prim.Native.Nat.{_≤_, _-_}
 use native.Mathlib.Omega.{arith}
@@ -10,7 +10,7 @@ use Rattle.lists.proofs.Tabulate.{tabulate-put}
 use Rattle.codec_duplex.specs.Columns.{strand, fieldAt, combinedColumn}
 use Rattle.codec_duplex.specs.Position.{combined}
 use Rattle.codec_duplex.specs.declared.position.Position.{Position}
-use Rattle.codec_duplex.proofs.CallsAlone.{bases-of-calls, quals-of-calls}
+use Rattle.codec_duplex.proofs.BasesAlone.{bases-alone, quals-alone}
 use Rattle.codec_duplex.proofs.columns.combine_columns.Statement.{statement}
 use Rattle.codec_duplex.proofs.columns.combine_columns.Tie as tie
 
@@ -28,8 +28,8 @@ abbrev μ-loop : tie.MeasureT-loop
 μ-loop a-bases a-quals a-depths a-errors b-bases b-quals b-depths b-errors bases quals depths₀ errors₀ i₀ depths errors i =
     length a-bases - i
 
-combine-calls-requires : tie.Need-combine-calls-requires Inv-loop μ-loop
-combine-calls-requires c κs = search needs
+combine-bases-requires : tie.Need-combine-bases-requires Inv-loop μ-loop
+combine-bases-requires c κs = search needs
 
 loop-holds : tie.Need-loop-holds Inv-loop μ-loop
 unfolding tabulate
@@ -97,11 +97,11 @@ returns c =
     let args = c .before .before .before .before .before .before .before .before .before .before .before .before .before .before .before .before .before .before .before .before .before .args in
     let a = strand (args .a-bases .now) (args .a-quals .now) (args .a-depths .now) (args .a-errors .now) in
     let b = strand (args .b-bases .now) (args .b-quals .now) (args .b-depths .now) (args .b-errors .now) in
-    let calls = c .before .before .before .before .before .before .combine-calls .ensures in
+    let first = c .before .before .before .before .before .before .combine-bases .ensures in
     let end : c .before .loop .i ≡ length (args .a-bases .now) = omega arith in
     record {
-      bases = rw (bases-of-calls a b) at (calls .filledBases);
-      quals = rw (quals-of-calls a b) at (calls .filledQuals);
+      bases = rw (bases-alone a b) at (first .bases);
+      quals = rw (quals-alone a b) at (first .quals);
       depths = rw end at (inv .3);
       errors = rw end at (inv .4);
     }
@@ -112,7 +112,7 @@ combine-columns-spec =
     (tie.spec
     Inv-loop
     μ-loop
-    combine-calls-requires
+    combine-bases-requires
     loop-holds
     position-at-requires
     position-at-requires-2

@@ -1,4 +1,4 @@
--- The calls are written first; then the first i positions of the columns of pairs, and a turn writes two bytes more of each.
+-- Bases and qualities are written first; then the first i positions of the columns of pairs, and a turn writes two bytes more of each.
 use mathlib.Core.List.{List}
 use mathlib.Core.Path.{_≡_, _∙_, ap, ap₂}
 use Prim.Native.Nat.{ℕ, _+_, _*_, _≤_, _<_, _-_}
@@ -10,7 +10,7 @@ use Rattle.lists.specs.Written.{written}
 use Rattle.codec_duplex.specs.Columns.{strand, fieldAt, combinedColumn}
 use Rattle.codec_duplex.specs.Position.{combined}
 use Rattle.codec_duplex.specs.declared.position.Position.{Position}
-use Rattle.codec_duplex.proofs.CallsAlone.{bases-of-calls, quals-of-calls}
+use Rattle.codec_duplex.proofs.BasesAlone.{bases-alone, quals-alone}
 use Rattle.codec_ffi.specs.Bytes.{read}
 use Rattle.codec_ffi.specs.Words.{lowFirst}
 use Rattle.codec_ffi.proofs.Laws.{length-words, lowFirst-put}
@@ -31,8 +31,8 @@ abbrev μ-loop : tie.MeasureT-loop
 μ-loop a-bases a-quals a-depths a-errors b-bases b-quals b-depths b-errors bases quals depths₀ errors₀ i₀ depths errors i =
     length a-bases - i
 
-combine-calls-requires : tie.Need-combine-calls-requires Inv-loop μ-loop
-combine-calls-requires c κs = search needs
+combine-bases-requires : tie.Need-combine-bases-requires Inv-loop μ-loop
+combine-bases-requires c κs = search needs
 
 loop-holds : tie.Need-loop-holds Inv-loop μ-loop
 unfolding tabulate lowFirst
@@ -124,11 +124,11 @@ returns c =
     let args = c .before .before .before .before .before .before .before .before .before .before .before .before .before .before .before .before .before .before .before .before .before .args in
     let a = read (strand (args .a-bases .now) (args .a-quals .now) (args .a-depths .now) (args .a-errors .now)) in
     let b = read (strand (args .b-bases .now) (args .b-quals .now) (args .b-depths .now) (args .b-errors .now)) in
-    let calls = c .before .before .before .before .before .before .combine-calls .ensures in
+    let first = c .before .before .before .before .before .before .combine-bases .ensures in
     let end : c .before .loop .i ≡ length (args .a-bases .now) = omega arith in
     record {
-      bases = rw (bases-of-calls a b) at (calls .filledBases);
-      quals = rw (quals-of-calls a b) at (calls .filledQuals);
+      bases = rw (bases-alone a b) at (first .bases);
+      quals = rw (quals-alone a b) at (first .quals);
       depths = rw end at (inv .3);
       errors = rw end at (inv .4);
     }
@@ -139,7 +139,7 @@ combine-bytes-spec =
     (tie.spec
     Inv-loop
     μ-loop
-    combine-calls-requires
+    combine-bases-requires
     loop-holds
     position-at-requires
     position-at-requires-2

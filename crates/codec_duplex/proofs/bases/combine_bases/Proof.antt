@@ -7,19 +7,20 @@ use lib.ListN.{length, length-set}
 use Rattle.lists.specs.Tabulate.{tabulate}
 use Rattle.lists.specs.Written.{written}
 use Rattle.lists.proofs.Tabulate.{tabulate-put}
-use Rattle.codec_duplex.specs.Columns.{calls, fieldAt, combinedColumn}
+use Rattle.codec_duplex.specs.Bases.{basesAlone}
+use Rattle.codec_duplex.specs.Columns.{fieldAt, combinedColumn}
 use Rattle.codec_duplex.specs.Position.{combined}
 use Rattle.codec_duplex.specs.declared.position.Position.{Position}
-use Rattle.codec_duplex.proofs.calls.combine_calls.Statement.{statement}
-use Rattle.codec_duplex.proofs.calls.combine_calls.Tie as tie
+use Rattle.codec_duplex.proofs.bases.combine_bases.Statement.{statement}
+use Rattle.codec_duplex.proofs.bases.combine_bases.Tie as tie
 
 abbrev Inv-loop : tie.InvT-loop
 Inv-loop a-bases a-quals b-bases b-quals bases₀ quals₀ i₀ bases quals i =
     (i ≤ length a-bases)
     × (length bases ≡ length bases₀)
     × (length quals ≡ length quals₀)
-    × (bases ≡ written (tabulate (fieldAt Position.base (calls a-bases a-quals) (calls b-bases b-quals)) i) bases₀)
-    × (quals ≡ written (tabulate (fieldAt Position.quality (calls a-bases a-quals) (calls b-bases b-quals)) i) quals₀)
+    × (bases ≡ written (tabulate (fieldAt Position.base (basesAlone a-bases a-quals) (basesAlone b-bases b-quals)) i) bases₀)
+    × (quals ≡ written (tabulate (fieldAt Position.quality (basesAlone a-bases a-quals) (basesAlone b-bases b-quals)) i) quals₀)
 
 abbrev μ-loop : tie.MeasureT-loop
 μ-loop a-bases a-quals b-bases b-quals bases₀ quals₀ i₀ bases quals i = length a-bases - i
@@ -28,11 +29,11 @@ loop-holds : tie.Need-loop-holds Inv-loop μ-loop
 unfolding tabulate
 loop-holds c = search needs
 
-call-at-requires : tie.Need-call-at-requires Inv-loop μ-loop
-call-at-requires c κs = search needs
+base-at-requires : tie.Need-base-at-requires Inv-loop μ-loop
+base-at-requires c κs = search needs
 
-call-at-requires-2 : tie.Need-call-at-requires-2 Inv-loop μ-loop
-call-at-requires-2 c κs = search needs
+base-at-requires-2 : tie.Need-base-at-requires-2 Inv-loop μ-loop
+base-at-requires-2 c κs = search needs
 
 combine-requires : tie.Need-combine-requires Inv-loop μ-loop
 combine-requires c κs = search needs
@@ -54,9 +55,9 @@ unfolding fieldAt
 loop-again c =
     let loop = c .before .before .before .before .loop in
     let args = c .before .before .before .before .before .before .before .before .before .before .before .args in
-    let a = calls (args .a-bases .now) (args .a-quals .now) in
-    let b = calls (args .b-bases .now) (args .b-quals .now) in
-    let p = c .combine .ensures ∙ ap₂ combined (c .before .before .call-at .ensures) (c .before .call-at2 .ensures) in (
+    let a = basesAlone (args .a-bases .now) (args .a-quals .now) in
+    let b = basesAlone (args .b-bases .now) (args .b-quals .now) in
+    let p = c .combine .ensures ∙ ap₂ combined (c .before .before .base-at .ensures) (c .before .base-at2 .ensures) in (
       omega arith,
       simp length-set (loop .inv .1),
       simp length-set (loop .inv .2),
@@ -75,17 +76,17 @@ unfolding combinedColumn
 returns c =
     let inv = c .before .loop .inv in
     let end : c .before .loop .i ≡ length (c .before .before .before .before .before .before .before .before .args .a-bases .now) = omega arith in
-    record { filledBases = rw end at (inv .3); filledQuals = rw end at (inv .4) }
+    record { bases = rw end at (inv .3); quals = rw end at (inv .4) }
 
-pub combine-calls-spec : {M : Type 1} → statement M
-combine-calls-spec =
+pub combine-bases-spec : {M : Type 1} → statement M
+combine-bases-spec =
     tie.close
     (tie.spec
     Inv-loop
     μ-loop
     loop-holds
-    call-at-requires
-    call-at-requires-2
+    base-at-requires
+    base-at-requires-2
     combine-requires
     slice-write-bases
     slice-write-quals
