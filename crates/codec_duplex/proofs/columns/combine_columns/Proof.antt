@@ -1,5 +1,5 @@
 -- Bases and qualities are written first; then the first i positions of the other results, and a turn writes one more.
-use mathlib.Core.Path.{_≡_, _∙_, ap, ap₂}
+use mathlib.Core.Path.{_≡_, refl, _∙_, ap, ap₂}
 use Prim.Native.Nat.{_≤_, _-_}
 use native.Mathlib.Omega.{arith}
 use borrow.Author.Needs.{needs}
@@ -33,7 +33,7 @@ combine-bases-requires c κs = search needs
 
 loop-holds : tie.Need-loop-holds Inv-loop μ-loop
 unfolding tabulate
-loop-holds c = search needs
+loop-holds c = (omega arith, refl, refl, refl, refl)
 
 position-at-requires : tie.Need-position-at-requires Inv-loop μ-loop
 position-at-requires c κs = search needs

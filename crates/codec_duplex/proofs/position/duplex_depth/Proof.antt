@@ -30,7 +30,7 @@ pick-u16-requires-3 c κs = search needs
 returns : tie.Need-returns
 returns c =
     let args = c .before .before .before .before .args in
-    cc (chosen (args .a-data) (args .b-data) (args .a) (args .b))
+    rw (c .pick-u163 .ensures, c .before .pick-u162 .ensures, c .before .before .capped-sum .ensures, c .before .before .before .pick-u16 .ensures) (chosen (args .a-data) (args .b-data) (args .a) (args .b))
 
 pub duplex-depth-spec : {M : Type 1} → statement M
 duplex-depth-spec =
