@@ -1,1 +1,2 @@
+pub mod BasesAlone
 pub mod Laws

@@ -1,3 +1,4 @@
+pub mod Bases
 pub mod Columns
 pub mod Combining
 pub mod Duplex

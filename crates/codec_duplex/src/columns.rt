@@ -1,4 +1,5 @@
 // The columns of a duplex.
+use crate::bases::combine_bases;
 use crate::position::Position;
 use crate::position::combine;
 ghost use mathlib.Core.List.{[], _∷_};
@@ -67,13 +68,12 @@ pub fn combine_columns(
         (duplex (now (bases .exit)) (now (quals .exit)) (now (depths .exit)) (now (errors .exit)))
         ⌝ }
 {
+    combine_bases(a_bases, a_quals, b_bases, b_quals, bases, quals);
     let mut i = 0;
     while i < a_bases.len() {
         let a = position_at(a_bases, a_quals, a_depths, a_errors, i);
         let b = position_at(b_bases, b_quals, b_depths, b_errors, i);
         let p = combine(a, b);
-        bases[i] = p.base;
-        quals[i] = p.quality;
         depths[i] = p.depth;
         errors[i] = p.error;
         i += 1;

@@ -7,7 +7,7 @@ use caller::short::clamp_combined_error_to_fgbio_short;
 use caller::short::clamp_per_base_to_fgbio_short;
 ghost use mathlib.Core.Bool.{cond};
 ghost use mathlib.Core.Path.{_≡_};
-ghost use Prim.Native.Nat.{_+_, _-_, max};
+ghost use Prim.Native.Nat.{_+_, _-_, min, max};
 ghost use lib.IntN.{pos};
 ghost use Rattle.caller.specs.Short.{shortError};
 ghost use Rattle.codec_duplex.specs.Position.{hasData, agreedQuality, differingQuality, bothQuality, bothDepth, winner, loser, errorWhere, byData, forced, combined};
@@ -38,11 +38,21 @@ pub fn has_data(base: u8) -> bool
     (base != NO_CALL_BASE) & (base != NO_CALL_BASE_LOWER)
 }
 
+fn at_most_max_phred(quality: u8) -> u8
+    ensures { λ r. ⌜ r ≡ min quality 93 ⌝ }
+{
+    if quality < MAX_PHRED {
+        quality
+    } else {
+        MAX_PHRED
+    }
+}
+
+// Two capped qualities have the same capped sum, which needs only 8 bits.
 fn agreed_quality(a: u8, b: u8) -> u8
     ensures { λ r. ⌜ r ≡ agreedQuality a b ⌝ }
 {
-    let sum = (a as u16) + (b as u16);
-    if sum < 93 { sum as u8 } else { MAX_PHRED }
+    at_most_max_phred(at_most_max_phred(a) + at_most_max_phred(b))
 }
 
 fn at_least_min_phred(quality: u8) -> u8
@@ -73,8 +83,8 @@ fn both_quality(a: Position, b: Position) -> u8
     pick_u8(a.base == b.base, agreed, differing)
 }
 
-// Two capped depths are at most 65,534.
-fn both_depth(a: u16, b: u16) -> u16
+// Two capped counts are at most 65,534.
+fn capped_sum(a: u16, b: u16) -> u16
     ensures { λ r. ⌜ r ≡ bothDepth a b ⌝ }
 {
     (clamp_per_base_to_fgbio_short(a) + clamp_per_base_to_fgbio_short(b)) as u16
@@ -86,11 +96,11 @@ fn non_errors(depth: u16, error: u16) -> u16
     if error < depth { depth - error } else { 0 }
 }
 
-// The sum may pass 16 bits before it is clamped.
+// The sum may pass 16 bits; that of two capped errors does not, and is clamped to the same.
 fn error_sum(a: u16, b: u16) -> u16
     ensures { λ r. ⌜ r ≡ shortError (pos (a + b)) ⌝ }
 {
-    clamp_combined_error_to_fgbio_short((a as i64) + (b as i64))
+    clamp_combined_error_to_fgbio_short(capped_sum(a, b) as i64)
 }
 
 // Each of the four fields below is chosen with no branch, by the strands that have data and by a no-call on either.
@@ -117,7 +127,7 @@ fn duplex_depth(a_data: bool, b_data: bool, a: Position, b: Position) -> u16
     ensures { λ r. ⌜ r ≡ byData «a_data» «b_data» a b .depth ⌝ }
 {
     let lone = pick_u16(a_data, a.depth, b.depth);
-    let called = pick_u16(a_data & b_data, both_depth(a.depth, b.depth), lone);
+    let called = pick_u16(a_data & b_data, capped_sum(a.depth, b.depth), lone);
     pick_u16(a_data | b_data, called, 0)
 }
 

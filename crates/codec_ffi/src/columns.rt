@@ -1,6 +1,7 @@
 // The columns of a duplex, with depths and errors as byte pairs.
 use crate::words::put_word;
 use crate::words::word_at;
+use codec_duplex::bases::combine_bases;
 use codec_duplex::position::Position;
 use codec_duplex::position::combine;
 ghost use mathlib.Core.List.{[], _∷_};
@@ -56,13 +57,12 @@ pub fn combine_bytes(
         (duplex (now (bases .exit)) (now (quals .exit)) (now (depths .exit)) (now (errors .exit)))
         ⌝ }
 {
+    combine_bases(a_bases, a_quals, b_bases, b_quals, bases, quals);
     let mut i = 0;
     while i < a_bases.len() {
         let a = position_at(a_bases, a_quals, a_depths, a_errors, i);
         let b = position_at(b_bases, b_quals, b_depths, b_errors, i);
         let p = combine(a, b);
-        bases[i] = p.base;
-        quals[i] = p.quality;
         put_word(depths, i, p.depth);
         put_word(errors, i, p.error);
         i += 1;

@@ -18,8 +18,8 @@ chosen false false a b = refl
 pick-u16-requires : tie.Need-pick-u16-requires
 pick-u16-requires c κs = search needs
 
-both-depth-requires : tie.Need-both-depth-requires
-both-depth-requires c κs = search needs
+capped-sum-requires : tie.Need-capped-sum-requires
+capped-sum-requires c κs = search needs
 
 pick-u16-requires-2 : tie.Need-pick-u16-requires-2
 pick-u16-requires-2 c κs = search needs
@@ -30,14 +30,14 @@ pick-u16-requires-3 c κs = search needs
 returns : tie.Need-returns
 returns c =
     let args = c .before .before .before .before .args in
-    cc (chosen (args .a-data) (args .b-data) (args .a) (args .b))
+    rw (c .pick-u163 .ensures, c .before .pick-u162 .ensures, c .before .before .capped-sum .ensures, c .before .before .before .pick-u16 .ensures) (chosen (args .a-data) (args .b-data) (args .a) (args .b))
 
 pub duplex-depth-spec : {M : Type 1} → statement M
 duplex-depth-spec =
     tie.close
     (tie.spec
     pick-u16-requires
-    both-depth-requires
+    capped-sum-requires
     pick-u16-requires-2
     pick-u16-requires-3
     returns)

@@ -1,9 +1,11 @@
 -- The choices of the code, by the higher quality and by whether the bases differ.
 use mathlib.Core.Bool.{Bool, true, false, cond}
-use mathlib.Core.Path.{_≡_, refl}
-use Prim.Native.Nat.{_+_, _-_}
+use mathlib.Core.Path.{_≡_, refl, ap}
+use Prim.Native.Nat.{ℕ, _+_, _-_}
 use borrow.Author.Needs.{needs}
 use lib.Dec.{ltb}
+use lib.IntN.{pos}
+use Rattle.caller.specs.Short.{shortError}
 use Rattle.codec_duplex.specs.Position.{errorWhere}
 use Rattle.codec_duplex.specs.declared.position.Position.{Position}
 use Rattle.codec_duplex.proofs.position.summed_error.Statement.{statement}
@@ -39,7 +41,14 @@ error-sum-requires c κs = search needs
 returns : tie.Need-returns
 returns c =
     let args = c .before .before .before .before .before .before .before .before .args in
-    cc (chosen (ltb (args .a .quality) (args .b .quality)) (args .differ) (args .a) (args .b))
+    rw (
+      c .error-sum .ensures,
+      c .before .pick-u164 .ensures,
+      c .before .before .non-errors .ensures,
+      c .before .before .before .pick-u163 .ensures,
+      c .before .before .before .before .pick-u162 .ensures,
+      c .before .before .before .before .before .pick-u16 .ensures,
+    ) (ap (λ (n : ℕ). shortError (pos n)) (chosen (ltb (args .a .quality) (args .b .quality)) (args .differ) (args .a) (args .b)))
 
 pub summed-error-spec : {M : Type 1} → statement M
 summed-error-spec =

@@ -92,6 +92,16 @@ loop-less c = search needs
 loop-again : tie.Need-loop-again Inv-loop μ-loop
 loop-again c = (omega arith, called (c .before), differing c)
 
+cast-t16 : tie.Need-cast-t16 Inv-loop μ-loop
+cast-t16 c =
+    let args = c .before .before .before .before .args in
+    omega (arith, c .before .loop .inv .1, count-le (bothCall (args .a .now) (args .b .now)) (c .before .loop .i))
+
+cast-t17 : tie.Need-cast-t17 Inv-loop μ-loop
+cast-t17 c =
+    let args = c .before .before .before .before .args in
+    omega (arith, c .before .loop .inv .2, count-le (disagree (args .a .now) (args .b .now)) (c .before .loop .i))
+
 returns : tie.Need-returns Inv-loop μ-loop
 unfolding tallied
 returns c =
@@ -116,4 +126,6 @@ tally-spec =
     add-i
     loop-less
     loop-again
+    cast-t16
+    cast-t17
     returns)

@@ -1,4 +1,4 @@
--- The first i positions of every result are written; a turn writes one more, two bytes of it in the columns of pairs.
+-- Bases and qualities are written first; then the first i positions of the columns of pairs, and a turn writes two bytes more of each.
 use mathlib.Core.List.{List}
 use mathlib.Core.Path.{_≡_, _∙_, ap, ap₂}
 use Prim.Native.Nat.{ℕ, _+_, _*_, _≤_, _<_, _-_}
@@ -7,10 +7,10 @@ use borrow.Author.Needs.{needs}
 use lib.ListN.{length, length-set}
 use Rattle.lists.specs.Tabulate.{tabulate}
 use Rattle.lists.specs.Written.{written}
-use Rattle.lists.proofs.Tabulate.{tabulate-put}
 use Rattle.codec_duplex.specs.Columns.{strand, fieldAt, combinedColumn}
 use Rattle.codec_duplex.specs.Position.{combined}
 use Rattle.codec_duplex.specs.declared.position.Position.{Position}
+use Rattle.codec_duplex.proofs.BasesAlone.{bases-alone, quals-alone}
 use Rattle.codec_ffi.specs.Bytes.{read}
 use Rattle.codec_ffi.specs.Words.{lowFirst}
 use Rattle.codec_ffi.proofs.Laws.{length-words, lowFirst-put}
@@ -18,22 +18,21 @@ use Rattle.codec_ffi.proofs.columns.combine_bytes.Statement.{statement}
 use Rattle.codec_ffi.proofs.columns.combine_bytes.Tie as tie
 
 abbrev Inv-loop : tie.InvT-loop
-Inv-loop a-bases a-quals a-depths a-errors b-bases b-quals b-depths b-errors bases₀ quals₀ depths₀ errors₀ i₀ bases quals depths errors i =
+Inv-loop a-bases a-quals a-depths a-errors b-bases b-quals b-depths b-errors bases quals depths₀ errors₀ i₀ depths errors i =
     let a = read (strand a-bases a-quals a-depths a-errors) in
     let b = read (strand b-bases b-quals b-depths b-errors) in
     (i ≤ length a-bases)
-    × (length bases ≡ length bases₀)
-    × (length quals ≡ length quals₀)
     × (length depths ≡ length depths₀)
     × (length errors ≡ length errors₀)
-    × (bases ≡ written (tabulate (fieldAt Position.base a b) i) bases₀)
-    × (quals ≡ written (tabulate (fieldAt Position.quality a b) i) quals₀)
     × (depths ≡ written (lowFirst (tabulate (fieldAt Position.depth a b) i)) depths₀)
     × (errors ≡ written (lowFirst (tabulate (fieldAt Position.error a b) i)) errors₀)
 
 abbrev μ-loop : tie.MeasureT-loop
-μ-loop a-bases a-quals a-depths a-errors b-bases b-quals b-depths b-errors bases₀ quals₀ depths₀ errors₀ i₀ bases quals depths errors i =
+μ-loop a-bases a-quals a-depths a-errors b-bases b-quals b-depths b-errors bases quals depths₀ errors₀ i₀ depths errors i =
     length a-bases - i
+
+combine-bases-requires : tie.Need-combine-bases-requires Inv-loop μ-loop
+combine-bases-requires c κs = search needs
 
 loop-holds : tie.Need-loop-holds Inv-loop μ-loop
 unfolding tabulate lowFirst
@@ -49,15 +48,15 @@ pub record Pairs (i : ℕ) (ad ae bd be d e : List ℕ) : Type 0 where
   pub errors : i * 2 + 1 < length e
 
 pairs : (c : tie.In-loop Inv-loop μ-loop) → Pairs (c .before .loop .i)
-    (c .before .before .before .before .before .before .before .before .before .before .before .before .before .before .args .a-depths .now)
-    (c .before .before .before .before .before .before .before .before .before .before .before .before .before .before .args .a-errors .now)
-    (c .before .before .before .before .before .before .before .before .before .before .before .before .before .before .args .b-depths .now)
-    (c .before .before .before .before .before .before .before .before .before .before .before .before .before .before .args .b-errors .now)
-    (c .before .before .before .before .before .before .before .before .before .before .before .before .before .before .args .depths .now)
-    (c .before .before .before .before .before .before .before .before .before .before .before .before .before .before .args .errors .now)
+    (c .before .before .before .before .before .before .before .before .before .before .before .before .before .before .before .before .before .before .before .before .before .args .a-depths .now)
+    (c .before .before .before .before .before .before .before .before .before .before .before .before .before .before .before .before .before .before .before .before .before .args .a-errors .now)
+    (c .before .before .before .before .before .before .before .before .before .before .before .before .before .before .before .before .before .before .before .before .before .args .b-depths .now)
+    (c .before .before .before .before .before .before .before .before .before .before .before .before .before .before .before .before .before .before .before .before .before .args .b-errors .now)
+    (c .before .before .before .before .before .before .before .before .before .before .before .before .before .before .before .before .before .before .before .before .before .args .depths .now)
+    (c .before .before .before .before .before .before .before .before .before .before .before .before .before .before .before .before .before .before .before .before .before .args .errors .now)
 pairs c =
-    let args = c .before .before .before .before .before .before .before .before .before .before .before .before .before .before .args in
-    let fit = c .before .before .before .before .before .before .before .before .before .before .before .before .before .before .pre in
+    let args = c .before .before .before .before .before .before .before .before .before .before .before .before .before .before .before .before .before .before .before .before .before .args in
+    let fit = c .before .before .before .before .before .before .before .before .before .before .before .before .before .before .before .before .before .before .before .before .before .pre in
     record {
       a-depths = omega (arith, fit .aDepths, length-words (args .a-depths .now));
       a-errors = omega (arith, fit .aErrors, length-words (args .a-errors .now));
@@ -76,20 +75,14 @@ position-at-requires-2 c κs = (omega arith, omega arith, pairs (c .before) .b-d
 combine-requires : tie.Need-combine-requires Inv-loop μ-loop
 combine-requires c κs = search needs
 
-slice-write-bases : tie.Need-slice-write-bases Inv-loop μ-loop
-slice-write-bases c = search needs
-
-slice-write-quals : tie.Need-slice-write-quals Inv-loop μ-loop
-slice-write-quals c = search needs
-
 put-word-requires : tie.Need-put-word-requires Inv-loop μ-loop
-put-word-requires c κs = omega (arith, pairs (c .before .before .before .before) .depths, c .before .before .before .before .before .loop .inv .3)
+put-word-requires c κs = omega (arith, pairs (c .before .before .before .before) .depths, c .before .before .before .before .before .loop .inv .1)
 
 put-word-requires-2 : tie.Need-put-word-requires-2 Inv-loop μ-loop
-put-word-requires-2 c κs = omega (arith, pairs (c .before .before .before .before .before .before .before .before) .errors, c .before .before .before .before .before .before .before .before .before .loop .inv .4)
+put-word-requires-2 c κs = omega (arith, pairs (c .before .before .before .before .before .before .before .before) .errors, c .before .before .before .before .before .before .before .before .before .loop .inv .2)
 
 add-i : tie.Need-add-i Inv-loop μ-loop
-add-i c = omega (arith, c .before .before .before .before .before .before .before .before .before .before .before .loop-test .taken, c .before .before .before .before .before .before .before .before .before .before .before .before .before .before .before .before .before .before .before .before .before .before .before .before .before .good)
+add-i c = omega (arith, c .before .before .before .before .before .before .before .before .before .before .before .loop-test .taken, c .before .before .before .before .before .before .before .before .before .before .before .before .before .before .before .before .before .before .before .before .before .before .before .before .before .before .before .before .before .before .before .before .good)
 
 loop-less : tie.Need-loop-less Inv-loop μ-loop
 loop-less c = search needs
@@ -98,7 +91,7 @@ loop-again : tie.Need-loop-again Inv-loop μ-loop
 unfolding fieldAt
 loop-again c =
     let loop = c .before .before .before .before .before .before .before .before .before .before .before .before .loop in
-    let args = c .before .before .before .before .before .before .before .before .before .before .before .before .before .before .before .before .before .before .before .before .before .before .before .before .before .args in
+    let args = c .before .before .before .before .before .before .before .before .before .before .before .before .before .before .before .before .before .before .before .before .before .before .before .before .before .before .before .before .before .before .before .before .args in
     let room = pairs (c .before .before .before .before .before .before .before .before .before .before .before) in
     let a = read (strand (args .a-bases .now) (args .a-quals .now) (args .a-depths .now) (args .a-errors .now)) in
     let b = read (strand (args .b-bases .now) (args .b-quals .now) (args .b-depths .now) (args .b-errors .now)) in
@@ -106,34 +99,39 @@ loop-again c =
     let depths = c .before .before .before .before .before .before .put-word .ensures in
     let errors = c .before .before .put-word2 .ensures in (
       omega (arith, c .before .before .before .before .before .before .before .before .before .before .before .loop-test .taken),
-      simp length-set (loop .inv .1),
-      simp length-set (loop .inv .2),
-      ap length depths ∙ simp length-set (loop .inv .3),
-      ap length errors ∙ simp length-set (loop .inv .4),
-      tabulate-put (fieldAt Position.base a b) (args .bases .now) (loop .i) (omega (arith, c .before .before .before .before .before .before .before .before .before .before .before .loop-test .taken, c .before .before .before .before .before .before .before .before .before .before .before .before .before .before .before .before .before .before .before .before .before .before .before .before .before .pre)) (loop .inv .5) (ap Position.base p),
-      tabulate-put (fieldAt Position.quality a b) (args .quals .now) (loop .i) (omega (arith, c .before .before .before .before .before .before .before .before .before .before .before .loop-test .taken, c .before .before .before .before .before .before .before .before .before .before .before .before .before .before .before .before .before .before .before .before .before .before .before .before .before .pre)) (loop .inv .6) (ap Position.quality p),
-      depths ∙ lowFirst-put (fieldAt Position.depth a b) (args .depths .now) (loop .i) (room .depths) (loop .inv .7) (ap Position.depth p),
-      errors ∙ lowFirst-put (fieldAt Position.error a b) (args .errors .now) (loop .i) (room .errors) (loop .inv .8) (ap Position.error p),
+      ap length depths ∙ simp length-set (loop .inv .1),
+      ap length errors ∙ simp length-set (loop .inv .2),
+      depths ∙ lowFirst-put (fieldAt Position.depth a b) (args .depths .now) (loop .i) (room .depths) (loop .inv .3) (ap Position.depth p),
+      errors ∙ lowFirst-put (fieldAt Position.error a b) (args .errors .now) (loop .i) (room .errors) (loop .inv .4) (ap Position.error p),
     )
 
 same-length : tie.Need-same-length Inv-loop μ-loop
-same-length c = c .before .loop .inv .1
+same-length c = search needs
 
 same-length-2 : tie.Need-same-length-2 Inv-loop μ-loop
-same-length-2 c = c .before .loop .inv .2
+same-length-2 c = search needs
 
 same-length-3 : tie.Need-same-length-3 Inv-loop μ-loop
-same-length-3 c = c .before .loop .inv .3
+same-length-3 c = search needs
 
 same-length-4 : tie.Need-same-length-4 Inv-loop μ-loop
-same-length-4 c = c .before .loop .inv .4
+same-length-4 c = search needs
 
 returns : tie.Need-returns Inv-loop μ-loop
 unfolding combinedColumn
 returns c =
     let inv = c .before .loop .inv in
-    let end : c .before .loop .i ≡ length (c .before .before .before .before .before .before .before .before .before .before .before .before .before .before .args .a-bases .now) = omega arith in
-    record { bases = rw end at (inv .5); quals = rw end at (inv .6); depths = rw end at (inv .7); errors = rw end at (inv .8) }
+    let args = c .before .before .before .before .before .before .before .before .before .before .before .before .before .before .before .before .before .before .before .before .before .args in
+    let a = read (strand (args .a-bases .now) (args .a-quals .now) (args .a-depths .now) (args .a-errors .now)) in
+    let b = read (strand (args .b-bases .now) (args .b-quals .now) (args .b-depths .now) (args .b-errors .now)) in
+    let first = c .before .before .before .before .before .before .combine-bases .ensures in
+    let end : c .before .loop .i ≡ length (args .a-bases .now) = omega arith in
+    record {
+      bases = rw (bases-alone a b) at (first .bases);
+      quals = rw (quals-alone a b) at (first .quals);
+      depths = rw end at (inv .3);
+      errors = rw end at (inv .4);
+    }
 
 pub combine-bytes-spec : {M : Type 1} → statement M
 combine-bytes-spec =
@@ -141,12 +139,11 @@ combine-bytes-spec =
     (tie.spec
     Inv-loop
     μ-loop
+    combine-bases-requires
     loop-holds
     position-at-requires
     position-at-requires-2
     combine-requires
-    slice-write-bases
-    slice-write-quals
     put-word-requires
     put-word-requires-2
     add-i
