@@ -1,4 +1,4 @@
--- What holds of a family call between its parts, for every list of records that its table holds.
+-- What holds of a family call between its parts, for every list of records that its columns hold.
 use mathlib.Core.Bool.{Bool, true, false, cond, not, _&&_}
 use mathlib.Core.List.{List}
 use mathlib.Core.Path.{_≡_, refl, sym, _∙_, ap}
@@ -23,10 +23,12 @@ use Rattle.codec_rejects.specs.Fates.{AreFates, settled, rejections}
 use Rattle.codec_rejects.specs.Handover.{markWords, listedRecords, listedReasons}
 use Rattle.codec_rejects.proofs.Listing.{length-handover}
 use Rattle.codec_rejects.proofs.Settling.{length-settled}
-use Rattle.codec_select.specs.Records.{blank}
+use Rattle.codec_select.specs.Records.{blank, Full, Holds}
+use Rattle.codec_select.specs.declared.columns.Columns.{Columns}
 use Rattle.codec_select.specs.declared.options.Options.{Options}
 use Rattle.codec_select.specs.declared.records.Record.{Record}
 use Rattle.codec_select.specs.declared.selection.Decision.{Decision}
+use Rattle.codec_select.proofs.Holding.{recordsIn, length-records, holds-records}
 use Rattle.codec_stats.specs.Ledger.{tooLarge, full, ofCounts, plus, Addable}
 use Rattle.codec_stats.specs.declared.ledger.Ledger.{Ledger}
 use Rattle.codec_family.specs.Answer.{reported}
@@ -50,23 +52,23 @@ use Rattle.codec_caller.specs.Columns.{WrittenIf}
 use Rattle.codec_caller.specs.Settling.{Selected, Settles}
 use Rattle.codec_caller.specs.declared.family.Settlement.{Settlement}
 
--- a list of as many records, which the table holds where they are not too many
-pub record Held (table : List Record) (len : ℕ) (rs : List Record) : Type 0 where
+-- a list of as many records, which the columns hold where they are not too many
+pub record Held (columns : Columns) (len : ℕ) (rs : List Record) : Type 0 where
   pub size : length rs ≡ len
-  pub front : len ≤ 512 → take len table ≡ rs
+  pub front : len ≤ 512 → Holds columns len rs
 
 -- there is one
-abbrev pub recordsOf : List Record → ℕ → List Record
-recordsOf table len = cond (ltb 512 len) (replicate len blank) (take len table)
+abbrev pub recordsOf : Columns → ℕ → List Record
+recordsOf columns len = cond (ltb 512 len) (replicate len blank) (recordsIn columns len)
 
-pub some-records : (table : List Record) (len : ℕ) → length table ≡ 512 → Held table len (recordsOf table len)
-some-records table len full = go (ltb 512 len) refl
+pub some-records : (columns : Columns) (len : ℕ) → Full columns → Held columns len (recordsOf columns len)
+some-records columns len full = go (ltb 512 len) refl
   where
-    go : (many : Bool) → ltb 512 len ≡ many → Held table len (cond many (replicate len blank) (take len table))
+    go : (many : Bool) → ltb 512 len ≡ many → Held columns len (cond many (replicate len blank) (recordsIn columns len))
     go true e = record { size = length-replicate len blank; front = λ few. absurd (omega (arith, ltb-true 512 len e)) }
-    go false e = record { size = simp length-take (omega (arith, ltb-false 512 len e)); front = λ few. refl }
+    go false e = record { size = length-records columns len; front = λ few. holds-records columns len full few }
 
--- the fates of as many records as the table takes
+-- the fates of as many records as the columns take
 pub selected-front : (o : Options) (len n : ℕ) (rs : List Record) (ops : List ℕ) (d : Decision) (own : List ℕ) → n ≡ cond (ltb 512 len) 0 len → Selected o len rs ops d (take (cond (ltb 512 len) 0 len) own) → Selected o len rs ops d (take n own)
 selected-front o len n rs ops d own e s = rw e s
 
@@ -141,10 +143,10 @@ duplex-roomy n d few wide =
     record { bases = omega (arith, wide .bases); quals = omega (arith, wide .quals); depths = omega (arith, wide .depths); errors = omega (arith, wide .errors) }
 
 -- the parts of one call, in the order of the code: the decision d and the fates own of selection, and the refusal r
-module _ (table : List Record) (len : ℕ) (o : Options) (ops : List ℕ) (hasR1 : Bool) (r1 : Strand) (hasR2 : Bool) (r2 : Strand) (lent : Lent) (ledger : Ledger) (d : Decision) (own : List ℕ) (r : Refusal)
-    (selects : (rs : List Record) → (len ≤ 512 → take len table ≡ rs) → Selected o len rs ops d own)
+module _ (cols : Columns) (len : ℕ) (o : Options) (ops : List ℕ) (hasR1 : Bool) (r1 : Strand) (hasR2 : Bool) (r2 : Strand) (lent : Lent) (ledger : Ledger) (d : Decision) (own : List ℕ) (r : Refusal)
+    (selects : (rs : List Record) → (len ≤ 512 → Holds cols len rs) → Selected o len rs ops d own)
     (refuses : r ≡ orElse (orElse (refusalIn d) (orElse (ofStrands hasR1 (widthsOf r1) (r1 .bases) hasR2 (widthsOf r2) (r2 .bases)) (refusedIf (tooNarrow (roomOf lent)) 9 0))) (ofCounts ledger))
-    (rs : List Record) (held : Held table len rs) where
+    (rs : List Record) (held : Held cols len rs) where
   abbrev call : Call
   call = callOf rs ops o hasR1 r1 hasR2 r2 lent
 

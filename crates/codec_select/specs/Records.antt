@@ -4,8 +4,8 @@ use mathlib.Core.List.{List, map}
 use mathlib.Core.Path.{_≡_}
 use Prim.Native.Nat.{ℕ, _≤_}
 use lib.IntN.{ℤ, pos}
-use lib.ListN.{length}
-use Rattle.lists.specs.Written.{written}
+use lib.ListN.{length, take}
+use Rattle.codec_select.specs.declared.columns.Columns.{Columns}
 use Rattle.codec_select.specs.declared.records.Record.{Record}
 
 -- a record of zeros, with which a table is filled up
@@ -27,15 +27,25 @@ pub record ColumnsRoom (n : ℕ) (flags names : List ℕ) (verdicts : List Bool)
 abbrev pub column : {A : Type 0} → (Record → A) → List Record → List A
 column field records = map field records
 
--- each field of the records fills the first places of its column
-pub record TakenApart (records : List Record)
-    (flags names : List ℕ) (verdicts : List Bool) (ranks : List ℤ) (clipped positions starts counts : List ℕ)
-    (flags′ names′ : List ℕ) (verdicts′ : List Bool) (ranks′ : List ℤ) (clipped′ positions′ starts′ counts′ : List ℕ) : Type 0 where
-  pub flags-of : flags′ ≡ written (column Record.flags records) flags
-  pub names-of : names′ ≡ written (column Record.name records) names
-  pub verdicts-of : verdicts′ ≡ written (column Record.verdict records) verdicts
-  pub ranks-of : ranks′ ≡ written (column Record.rank records) ranks
-  pub clipped-of : clipped′ ≡ written (column Record.clipped records) clipped
-  pub positions-of : positions′ ≡ written (column Record.position records) positions
-  pub starts-of : starts′ ≡ written (column Record.start records) starts
-  pub counts-of : counts′ ≡ written (column Record.count records) counts
+-- every column has 512 places
+pub record Full (columns : Columns) : Type 0 where
+  pub flags-full : length (columns .flags) ≡ 512
+  pub names-full : length (columns .names) ≡ 512
+  pub verdicts-full : length (columns .verdicts) ≡ 512
+  pub ranks-full : length (columns .ranks) ≡ 512
+  pub clipped-full : length (columns .clipped) ≡ 512
+  pub positions-full : length (columns .positions) ≡ 512
+  pub starts-full : length (columns .starts) ≡ 512
+  pub counts-full : length (columns .counts) ≡ 512
+
+-- the first n places of each column are a field of n records
+pub record Holds (columns : Columns) (n : ℕ) (records : List Record) : Type 0 where
+  pub as-many : n ≡ length records
+  pub flags-are : take n (columns .flags) ≡ column Record.flags records
+  pub names-are : take n (columns .names) ≡ column Record.name records
+  pub verdicts-are : take n (columns .verdicts) ≡ column Record.verdict records
+  pub ranks-are : take n (columns .ranks) ≡ column Record.rank records
+  pub clipped-are : take n (columns .clipped) ≡ column Record.clipped records
+  pub positions-are : take n (columns .positions) ≡ column Record.position records
+  pub starts-are : take n (columns .starts) ≡ column Record.start records
+  pub counts-are : take n (columns .counts) ≡ column Record.count records

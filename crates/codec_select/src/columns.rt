@@ -1,42 +1,55 @@
-// The records of a family, taken apart into columns.
+// The records of a family as columns, by value: a column for each field of a record.
+use crate::alone::room;
 use crate::records::Record;
 ghost use Prim.Native.Nat.{_≤_};
 ghost use lib.ListN.{take};
-ghost use Rattle.codec_select.specs.Records.{ColumnsRoom, TakenApart};
+ghost use Rattle.codec_select.specs.Records.{Full, Holds};
 
-// Writes each field of the first n records of a table into a column of its own.
-pub fn take_apart(
-    table: [Record; 512],
-    n: usize,
-    flags: &mut [u16],
-    names: &mut [u32],
-    verdicts: &mut [bool],
-    ranks: &mut [i32],
-    clipped: &mut [u32],
-    positions: &mut [u32],
-    starts: &mut [u32],
-    counts: &mut [u32],
-)
-    requires { ⌜ n ≤ 512 ⌝ }
-    requires { ⌜ ColumnsRoom n (now flags) (now names) (now verdicts) (now ranks) (now clipped) (now positions) (now starts) (now counts) ⌝ }
-    ensures { λ _. ⌜
-        TakenApart (take n table)
-        (now (flags .entry)) (now (names .entry)) (now (verdicts .entry)) (now (ranks .entry)) (now (clipped .entry)) (now (positions .entry)) (now (starts .entry)) (now (counts .entry))
-        (now (flags .exit)) (now (names .exit)) (now (verdicts .exit)) (now (ranks .exit)) (now (clipped .exit)) (now (positions .exit)) (now (starts .exit)) (now (counts .exit))
-        ⌝ }
+pub struct Columns {
+    pub flags: [u16; 512],
+    pub names: [u32; 512],
+    pub verdicts: [bool; 512],
+    pub ranks: [i32; 512],
+    pub clipped: [u32; 512],
+    pub positions: [u32; 512],
+    pub starts: [u32; 512],
+    pub counts: [u32; 512],
+}
+
+pub(crate) fn blank() -> Columns
+    ensures { λ r. ⌜ Full r ⌝ }
 {
+    Columns {
+        flags: [0u16; 512],
+        names: [0u32; 512],
+        verdicts: [false; 512],
+        ranks: [0i32; 512],
+        clipped: [0u32; 512],
+        positions: [0u32; 512],
+        starts: [0u32; 512],
+        counts: [0u32; 512],
+    }
+}
+
+// The first len records of a table; of too many, none.
+pub fn columns_of(table: [Record; 512], len: usize) -> Columns
+    ensures { λ r. ⌜ (len ≤ 512 → Holds r len (take len table)) ⌝ }
+{
+    let n = room(len);
+    let mut columns = blank();
     let mut i = 0;
     while i < n {
         let record = table[i];
         let rank = record.rank;
-        flags[i] = record.flags;
-        names[i] = record.name;
-        verdicts[i] = record.verdict;
-        ranks[i] = rank;
-        clipped[i] = record.clipped;
-        positions[i] = record.position;
-        starts[i] = record.start;
-        counts[i] = record.count;
+        columns.flags[i] = record.flags;
+        columns.names[i] = record.name;
+        columns.verdicts[i] = record.verdict;
+        columns.ranks[i] = rank;
+        columns.clipped[i] = record.clipped;
+        columns.positions[i] = record.position;
+        columns.starts[i] = record.start;
+        columns.counts[i] = record.count;
         i += 1;
     }
+    columns
 }

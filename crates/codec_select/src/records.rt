@@ -1,9 +1,9 @@
 // The records of a family, as a host lends them. The slice of records is read here alone.
-ghost use mathlib.Core.List.{_++_};
-ghost use mathlib.Core.Path.{_≡_};
-ghost use Prim.Native.Nat.{_-_, _≤_};
-ghost use lib.ListN.{length, take, replicate};
-ghost use Rattle.codec_select.specs.Records.{blank};
+use crate::columns::Columns;
+use crate::columns::blank;
+ghost use Prim.Native.Nat.{_≤_};
+ghost use lib.ListN.{length, take};
+ghost use Rattle.codec_select.specs.Records.{Holds};
 
 // Names are numbers, equal for equal names; `verdict` is the pair test's; `clipped` is the read's length, and `position` its start
 // from 1, after clipping; `start` and `count` are its part of the operation words.
@@ -19,26 +19,24 @@ pub struct Record {
     pub count: u32,
 }
 
-// The first n records, by value; what is left of the table is blank.
-pub fn gather(records: &[Record], n: usize) -> [Record; 512]
+// The first n records, each field in its column; what lies beyond is not said.
+pub fn gather(records: &[Record], n: usize) -> Columns
     requires { ⌜ (n ≤ length (now records)) × (n ≤ 512) ⌝ }
-    ensures { λ r. ⌜ r ≡ take n (now (records .entry)) ++ replicate (512 - n) blank ⌝ }
+    ensures { λ r. ⌜ Holds r n (take n (now (records .entry))) ⌝ }
 {
-    let none = Record {
-        flags: 0,
-        name: 0,
-        verdict: false,
-        rank: 0,
-        clipped: 0,
-        position: 0,
-        start: 0,
-        count: 0,
-    };
-    let mut table = [none; 512];
+    let mut columns = blank();
     let mut i = 0;
     while i < n {
-        table[i] = records[i];
+        let record = records[i];
+        columns.flags[i] = record.flags;
+        columns.names[i] = record.name;
+        columns.verdicts[i] = record.verdict;
+        columns.ranks[i] = record.rank;
+        columns.clipped[i] = record.clipped;
+        columns.positions[i] = record.position;
+        columns.starts[i] = record.start;
+        columns.counts[i] = record.count;
         i += 1;
     }
-    table
+    columns
 }

@@ -1,31 +1,37 @@
 -- The records of each side that stay are the family's, so that they have marks.
 use mathlib.Core.List.{List}
-use mathlib.Core.Path.{_≡_, refl, sym, _∙_, ap}
+use mathlib.Core.Path.{_≡_, refl, sym, _∙_, subst}
 use Prim.Native.Nat.{ℕ, _≤_}
 use native.Mathlib.Omega.{arith}
 use lib.ListN.{length, take, replicate, length-take}
+use Rattle.codec_select.specs.Records.{Holds}
 use Rattle.codec_select.specs.Selection.{SelectsInto}
 use Rattle.codec_select.specs.declared.records.Record.{Record}
-use Rattle.codec_select.proofs.Answering.{room-all, selects-marked, selects-room}
+use Rattle.codec_select.proofs.Answering.{room-all, marked-records}
+use Rattle.codec_select.proofs.Holding.{full-of, recordsIn, length-records, holds-records}
 use Rattle.codec_select.proofs.Formed.{fills-count, fills-within}
 use Rattle.codec_select.proofs.Outcomes.{records-below}
 use borrow.Author.Needs.{needs}
-use Rattle.codec_select.proofs.alone.select_table.Statement.{statement}
-use Rattle.codec_select.proofs.alone.select_table.Tie as tie
+use Rattle.codec_select.proofs.alone.select_marked.Statement.{statement}
+use Rattle.codec_select.proofs.alone.select_marked.Tie as tie
 
 abbrev records-of : tie.After-room → List Record
-records-of c = take (c .room .result) (c .before .before .args .table)
+records-of c = recordsIn (c .before .before .args .columns) (c .room .result)
 
 records-count : (c : tie.After-room) → c .room .result ≡ length (records-of c)
-records-count c = simp length-take (omega (arith, c .room .ensures .1 .1, c .before .before .good .0 .1 .0 .1))
+records-count c = sym (length-records (c .before .before .args .columns) (c .room .result))
 
 fates-count : (n : ℕ) → n ≤ 512 → n ≡ length {A = ℕ} (take n (replicate 512 0))
 fates-count n h = simp length-take (omega arith)
 
+-- the columns hold some records
 given : (c : tie.After-select-records) → let start = c .before .before .before .before .before .before in SelectsInto (start .args .options) (start .args .len) (records-of (c .before .before .before .before)) (start .args .ops .now) (c .select-records .result) (c .select-records .last .1 .1 .1 .1 .0) (c .select-records .last .1 .1 .1 .1 .1 .0) (c .select-records .last .1 .1 .1 .1 .1 .1 .0)
 given c =
     let start = c .before .before .before .before .before .before in
-    c .select-records .ensures (records-of (c .before .before .before .before)) (λ few. ap (λ (n : ℕ). take n (start .args .table)) (sym (room-all _ (start .args .len) (c .before .before .before .before .room .ensures .0) few)))
+    let room = c .before .before .before .before .room in
+    c .select-records .ensures (records-of (c .before .before .before .before))
+    (λ few. subst (λ (n : ℕ). Holds (start .args .columns) n (records-of (c .before .before .before .before))) (room-all _ (start .args .len) (room .ensures .0) few)
+    (holds-records (start .args .columns) (room .result) (full-of (start .args .columns) _ (start .good .0)) (room .ensures .1 .1)))
 
 room-requires : tie.Need-room-requires
 room-requires c κs = search needs
@@ -77,11 +83,10 @@ returns : tie.Need-returns
 returns c =
     let room = c .before .before .before .before .before .before .before .before .before .before .before in
     let start = c .before .before .before .before .before .before .before .before .before .before .before .before .before in
-    selects-room (start .args .options) (start .args .len) (start .args .table) (start .args .ops .now) _ _ (room .room .ensures .0)
-    (selects-marked (start .args .options) (start .args .len) (records-of room) (start .args .ops .now) (room .room .result) _ _ _ _ _ (records-count room) (given (c .before .before .before .before .before .before .before)) refl (c .before .before .mark-words .ensures) (c .mark-words2 .ensures))
+    marked-records (start .args .options) (start .args .len) (start .args .columns) (start .args .ops .now) (room .room .result) _ _ _ _ (room .room .ensures .0) _ (c .before .before .before .before .before .before .before .select-records .ensures) refl (c .before .before .mark-words .ensures) (c .mark-words2 .ensures)
 
-pub select-table-spec : {M : Type 1} → statement M
-select-table-spec =
+pub select-marked-spec : {M : Type 1} → statement M
+select-marked-spec =
     tie.close
     (tie.spec
     room-requires
