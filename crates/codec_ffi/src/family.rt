@@ -56,9 +56,9 @@ pub extern "C" fn codec_ffi_family(
 {
     let len = records.len();
     let n = room(len);
-    let table = gather(records, n);
+    let columns = gather(records, n);
     consensus_reads_raw(
-        table,
+        columns,
         len,
         ops,
         options,

@@ -1,12 +1,17 @@
 // Selection alone, exported.
 use codec_select::alone::room;
-use codec_select::alone::select_table;
+use codec_select::alone::select_marked;
+use codec_select::columns::Columns;
 use codec_select::options::Options;
 use codec_select::records::Record;
 use codec_select::records::gather;
 use codec_select::selection::Decision;
+ghost use mathlib.Core.List.{List};
 ghost use mathlib.Core.Path.{_≡_};
-ghost use lib.ListN.{length, take};
+ghost use Prim.Native.Nat.{_≤_};
+ghost use lib.ListN.{length};
+ghost use Rattle.codec_select.specs.Records.{Holds};
+ghost use Rattle.codec_select.specs.declared.records.Record.{Record as AnyRecord};
 ghost use Rattle.codec_ffi.specs.Select.{withoutWindow, reportedSelection, SelectingRecords};
 
 // Kind 0 has the window, the length and which side is negative, 1 nothing, 2 a reason's number, 3 a refusal's number and what goes with it.
@@ -71,11 +76,11 @@ pub fn report_selection(decision: Decision) -> SelectDecision
     }
 }
 
-// The work, on the records by value; how many there are is given beside them.
-pub fn report_table(table: [Record; 512], len: usize, ops: &[u32], options: Options) -> SelectAnswer
-    ensures { λ r. ⌜ SelectingRecords options len (take len table) (now (ops .entry)) r ⌝ }
+// The work, on the columns of the records; how many there are is given beside them.
+pub fn report_columns(columns: Columns, len: usize, ops: &[u32], options: Options) -> SelectAnswer
+    ensures { λ r. ⌜ ((records : List AnyRecord) → (len ≤ 512 → Holds columns len records) → SelectingRecords options len records (now (ops .entry)) r) ⌝ }
 {
-    let selection = select_table(table, len, ops, options);
+    let selection = select_marked(columns, len, ops, options);
     let decision = selection.decision;
     let r1 = selection.r1;
     let r2 = selection.r2;
@@ -97,6 +102,6 @@ pub extern "C" fn codec_ffi_select(
 {
     let len = records.len();
     let n = room(len);
-    let table = gather(records, n);
-    report_table(table, len, ops, options)
+    let columns = gather(records, n);
+    report_columns(columns, len, ops, options)
 }
