@@ -1,17 +1,23 @@
 -- Laws of the ledger from family to family.
-use mathlib.Core.Bool.{Bool, true}
+use mathlib.Core.Bool.{Bool, true, false, cond}
 use mathlib.Core.List.{List, [], _++_}
-use mathlib.Core.Path.{_≡_, sym}
+use mathlib.Core.Path.{_≡_, refl, sym}
 use Prim.Native.Nat.{ℕ, _≤_}
 use native.Mathlib.Nat.{le-refl}
 use native.Mathlib.Omega.{arith}
-use lib.ListN.{length, take, drop, length-append, length-drop, length-take, drop-of-length-le}
+use borrow.Author.Tests.{ltb-true, ltb-false}
+use lib.Dec.{ltb}
+use lib.ListN.{length, take, drop, replicate, length-append, length-drop, length-take, length-replicate, drop-of-length-le}
 use lib.Seq.{length-take-le}
+use Rattle.codec_caller.proofs.Parts.{Held}
 use Rattle.codec_duplex.specs.Columns.{strand}
 use Rattle.codec_duplex.specs.Duplex.{duplex}
 use Rattle.codec_family.specs.Call.{lentOf, roomOf}
 use Rattle.codec_family.specs.Counted.{afterCall}
 use Rattle.codec_family.specs.declared.room.Room.{Room}
+use Rattle.codec_select.specs.Records.{blank, Holds}
+use Rattle.codec_select.specs.declared.columns.Columns.{Columns}
+use Rattle.codec_select.specs.declared.records.Record.{Record}
 use Rattle.codec_stats.specs.Ledger.{Counts}
 use Rattle.family_text.specs.Family.{Family}
 use Rattle.family_text.specs.Ledgers.{ledgersFrom}
@@ -68,3 +74,11 @@ pub ledger-for : (f : Family) (room : Room) (ledger after : Counts) → room ≡
     → after ≡ afterCall (record { records = recordsOf (f .table) (f .header .records); ops = f .words; options = f .header .options; hasR1 = f .header .«has_r1»; r1 = f .r1; hasR2 = f .header .«has_r2»; r2 = f .r2; room = room }) ledger
     → after ≡ afterCall (callFor f) ledger
 ledger-for f room ledger after e h = rw e at h
+
+-- the records of a table, which the columns made of it hold
+pub table-records : (columns : Columns) (table : List Record) (len : ℕ) → length table ≡ 512 → (len ≤ 512 → Holds columns len (take len table)) → Held columns len (recordsOf table len)
+table-records columns table len full holds = go (ltb 512 len) refl
+  where
+    go : (many : Bool) → ltb 512 len ≡ many → Held columns len (cond many (replicate len blank) (take len table))
+    go true e = record { size = length-replicate len blank; front = λ few. absurd (omega (arith, ltb-true 512 len e)) }
+    go false e = record { size = simp length-take (omega (arith, ltb-false 512 len e)); front = holds }

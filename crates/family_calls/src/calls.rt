@@ -3,6 +3,7 @@ use answer_text::family_answer;
 use codec_caller::family::consensus_reads_raw;
 use codec_family::answer::FamilyAnswer;
 use codec_family::room::Widths;
+use codec_select::columns::columns_of;
 use codec_select::records::Record;
 use codec_stats::ledger::Ledger;
 use family_text::header::Header;
@@ -89,7 +90,7 @@ fn call_family(
     let r2_depths_end = r2.depths;
     let r2_errors_end = r2.errors;
     consensus_reads_raw(
-        table,
+        columns_of(table, found.records),
         found.records,
         &ops[..words],
         found.options,

@@ -1,6 +1,7 @@
 // The families of a window, one after the other, and what selection answers to each.
 use answer_text::selection_text;
 use codec_select::alone;
+use codec_select::columns::columns_of;
 use codec_select::records::Record;
 use codec_stats::ledger::Ledger;
 use family_text::column;
@@ -34,7 +35,8 @@ fn answer_family(
 {
     let at = output::make_room(output, to, selection_text::ANSWER_BYTES);
     let words = found.words;
-    let selection = alone::select_table(table, found.records, &ops[..words], found.options);
+    let columns = columns_of(table, found.records);
+    let selection = alone::select_marked(columns, found.records, &ops[..words], found.options);
     selection_text::write_selection(selection, output, at)
 }
 

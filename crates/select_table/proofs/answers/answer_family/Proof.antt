@@ -8,11 +8,14 @@ use Rattle.select_table.proofs.answers.answer_family.Tie as tie
 make-room-requires : tie.Need-make-room-requires
 make-room-requires c κs = search needs
 
-slice-aggregate-select-table : tie.Need-slice-aggregate-select-table
-slice-aggregate-select-table c = simp length-take (omega arith)
+columns-of-requires : tie.Need-columns-of-requires
+columns-of-requires c κs = search needs
 
-select-table-requires : tie.Need-select-table-requires
-select-table-requires c κs = search needs
+slice-aggregate-select-marked : tie.Need-slice-aggregate-select-marked
+slice-aggregate-select-marked c = simp length-take (omega arith)
+
+select-marked-requires : tie.Need-select-marked-requires
+select-marked-requires c κs = search needs
 
 write-selection-requires : tie.Need-write-selection-requires
 write-selection-requires c κs = search needs
@@ -28,8 +31,9 @@ answer-family-spec =
     tie.close
     (tie.spec
     make-room-requires
-    slice-aggregate-select-table
-    select-table-requires
+    columns-of-requires
+    slice-aggregate-select-marked
+    select-marked-requires
     write-selection-requires
     same-length
     returns)
