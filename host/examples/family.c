@@ -1,5 +1,6 @@
 /*
- * Calls one family from C and prints its duplex, the rejected records with their reasons, and the ledger's figures:
+ * Calls one family of sample 7 from C and prints its duplex, the rejected records with their reasons, the run's figures, and the
+ * sheet of the samples:
  *
  *     cc -Iinclude examples/family.c ../target/staticlib/libcodec_ffi.a -o family && ./family
  */
@@ -8,7 +9,7 @@
 #include <stdio.h>
 #include <stdlib.h>
 
-enum { POSITIONS = 2048, LISTED = 512, MARKS = 8 };
+enum { POSITIONS = 2048, LISTED = 512, MARKS = 8, SHEET = 16384 };
 
 /* Four columns of room. */
 struct columns {
@@ -21,6 +22,10 @@ static struct columns duplex, r1, r2;
 static uint32_t listed[LISTED];
 static uint8_t reasons[LISTED];
 static uint64_t marks[MARKS];
+static uint8_t sheet[SHEET];
+
+/* Fresh: all counts 0. */
+static struct codec_ffi_samples samples;
 
 /* 10M, and 4M 2D 6M */
 static const uint32_t ops[] = {10 << 4 | 0, 4 << 4 | 0, 2 << 4 | 2, 6 << 4 | 0};
@@ -55,7 +60,7 @@ int main(void) {
         records, sizeof records / sizeof *records, ops, sizeof ops / sizeof *ops, options,
         true, r1_bases, 10, quals, 10, depths, 10, errors, 10,
         true, r2_bases, 10, quals, 10, depths, 10, errors, 10,
-        ledger,
+        ledger, 7, &samples,
         duplex.bases, POSITIONS, duplex.quals, POSITIONS, duplex.depths, POSITIONS, duplex.errors, POSITIONS,
         r1.bases, POSITIONS, r1.quals, POSITIONS, r1.depths, POSITIONS, r1.errors, POSITIONS,
         r2.bases, POSITIONS, r2.quals, POSITIONS, r2.depths, POSITIONS, r2.errors, POSITIONS,
@@ -74,14 +79,14 @@ int main(void) {
     case CODEC_FFI_FAMILY_REJECTED: printf("rejected %" PRIu32 "\n", answer.ending.number); break;
     default: printf("refused %" PRIu32 " %" PRIu64 "\n", answer.ending.number, answer.ending.with); return EXIT_FAILURE;
     }
-    /* The list's order is open: look each record up. */
-    for (uint32_t record = 0; record < sizeof records / sizeof *records; record++)
-        for (uint64_t place = 0; place < answer.listed; place++)
-            if (listed[place] == record)
-                printf("record %" PRIu32 " rejected for %d%s\n", record, reasons[place],
-                       marks[record / 64] >> record % 64 & 1 ? "" : ", not marked");
+    for (uint64_t place = 0; place < answer.listed; place++)
+        printf("record %" PRIu32 " rejected for %d%s\n", listed[place], reasons[place],
+               marks[listed[place] / 64] >> listed[place] % 64 & 1 ? "" : ", not marked");
     struct codec_ffi_rates_answer rates = codec_ffi_rates(ledger);
     printf("%" PRIu64 " of %" PRIu64 " records filtered, %" PRIu64 " of %" PRIu64 " duplex bases disagree: %" PRIu64 " millionths\n",
            rates.filtered, ledger.records, ledger.disagreements, ledger.duplex_bases, rates.millionths);
+    struct codec_ffi_sheet_answer written = codec_ffi_sheet(&samples, sheet, SHEET);
+    if (written.number != 0) return EXIT_FAILURE;
+    fwrite(sheet, 1, written.length, stdout);
     return EXIT_SUCCESS;
 }

@@ -166,19 +166,26 @@ struct codec_ffi_family_ending {
     uint64_t length;
 };
 
-/* The ending, how many records are listed, and the ledger for the next call. */
+/* The ending, how many records are listed, and the run's ledger for the next call. */
 struct codec_ffi_family_answer {
     struct codec_ffi_family_ending ending;
     uint64_t listed;
     struct codec_ffi_ledger ledger;
 };
 
+/* A ledger for each sample of a run, 0 to 95, all counts 0 at first. */
+struct codec_ffi_samples {
+    struct codec_ffi_ledger ledgers[96];
+};
+
 /*
- * A whole family. Lengths are counts of elements; depths and errors are 16-bit numbers here. The columns of a strand that
+ * A whole family, counted in the run's ledger and in that of its sample, the same in both; no other sample's is looked at or
+ * touched. Refusals 1 to 11, and before them 20: the sample is above 95. Lengths are counts of elements; depths and errors are 16-bit numbers here. The columns of a strand that
  * is absent, its `has_` 0, are not read. Lent room: at least 2,048 places in each column of d (the duplex), s1 and s2 (R1's and
  * R2's strand under it), 512 in listed and reasons, 8 words in marks. The list gives each rejected record with its reason, by
- * rising record number. The answer fills the first places of each, what lies beyond stays as it is. No pointer is null, also
- * where its length is 0, nothing that is written overlaps anything else, and each `bool` is 0 or 1.
+ * rising record number. The answer fills the first places of each, what lies beyond stays as it is; after a refusal the samples
+ * are as they were too. No pointer is null, also where its length is 0, nothing that is written overlaps anything else, and each
+ * `bool` is 0 or 1.
  */
 struct codec_ffi_family_answer codec_ffi_family(
     const struct codec_ffi_record *records, size_t records_len,
@@ -195,6 +202,8 @@ struct codec_ffi_family_answer codec_ffi_family(
     const uint16_t *r2_depths, size_t r2_depths_len,
     const uint16_t *r2_errors, size_t r2_errors_len,
     struct codec_ffi_ledger ledger,
+    uint32_t sample,
+    struct codec_ffi_samples *samples,
     uint8_t *d_bases, size_t d_bases_len,
     uint8_t *d_quals, size_t d_quals_len,
     uint16_t *d_depths, size_t d_depths_len,
@@ -210,6 +219,18 @@ struct codec_ffi_family_answer codec_ffi_family(
     uint32_t *listed, size_t listed_len,
     uint8_t *reasons, size_t reasons_len,
     uint64_t *marks, size_t marks_len);
+
+/* The text's length, or a refusal's number: 10 where a sample's counts are none that calls can have led to, 21 for a short buffer. */
+struct codec_ffi_sheet_answer {
+    uint32_t number; /* 0: written */
+    uint64_t length;
+};
+
+/*
+ * Writes the samples' sheet: a line of names, then one for each sample with a family. The buffer has at least 16,384 bytes, however
+ * short the text; what lies beyond the text stays as it is, all of it after a refusal. No zero byte is put behind the text.
+ */
+struct codec_ffi_sheet_answer codec_ffi_sheet(const struct codec_ffi_samples *samples, uint8_t *out, size_t out_len);
 
 /* How many families of each lane wait, and the lane served last. Each call gives the dispatcher for the next one. */
 struct codec_ffi_dispatcher {
@@ -241,6 +262,7 @@ struct codec_ffi_dispatch_answer codec_ffi_add(struct codec_ffi_dispatcher dispa
 
 /* The first waiting lane after the one served last, in a circle: its count is lowered, also if its family is then refused. */
 struct codec_ffi_dispatch_answer codec_ffi_turn(struct codec_ffi_dispatcher dispatcher);
+
 enum codec_ffi_cigar_kind {
     CODEC_FFI_CIGAR_WRITTEN = 0, /* the number of words written */
     CODEC_FFI_CIGAR_REFUSED = 1, /* refusal 24, 25 or 26 with 0: the output is as it was */

@@ -1,5 +1,6 @@
 //! A whole family: its duplex, the records that it rejects, and the ledger that goes from call to call.
 
+use crate::samples::Samples;
 use crate::select::{Options, Record};
 use crate::{Results, Strand, sys};
 
@@ -180,11 +181,11 @@ pub enum Ending {
     NoStrand,
     /// Why the family ends without a duplex.
     Rejected(Reason),
-    /// Nothing was written, and the ledger is the one given.
+    /// Nothing was written, the ledger is the one given, and all samples' are as they were.
     Refused(Refusal),
 }
 
-/// The ending, how many records the list has, and the ledger for the next call.
+/// The ending, how many records the list has, and the run's ledger for the next call.
 #[derive(Clone, Copy, Debug, PartialEq, Eq)]
 pub struct FamilyAnswer {
     pub ending: Ending,
@@ -192,7 +193,10 @@ pub struct FamilyAnswer {
     pub ledger: Ledger,
 }
 
-/// Calls a family: its records with their parts of `ops`, and the strands built of each side's reads, where there are any.
+/// Calls a family: its records with their parts of `ops`, and the strands built of each side's reads, where there are any. What it
+/// comes to is counted in the run's ledger and in the sample's, the same in both; no other sample's is looked at or touched. A
+/// sample above 95 is refusal 20, before all others.
+#[expect(clippy::too_many_arguments, reason = "as many as a family has")]
 pub fn family(
     records: &[Record],
     ops: &[u32],
@@ -200,13 +204,15 @@ pub fn family(
     r1: Option<Strand<'_>>,
     r2: Option<Strand<'_>>,
     ledger: Ledger,
+    sample: u32,
+    samples: &mut Samples,
     lent: Lent<'_>,
 ) -> FamilyAnswer {
     let Lent { duplex: d, r1: s1, r2: s2, listed, reasons, marks } = lent;
     let (has_r1, has_r2) = (r1.is_some(), r2.is_some());
     let (r1, r2) = (r1.unwrap_or(Strand::NONE), r2.unwrap_or(Strand::NONE));
-    // SAFETY: every pointer goes with its own slice's length, records and ledger are laid out as the call reads them,
-    // and `&mut` keeps all that is written apart.
+    // SAFETY: every pointer goes with its own slice's length, records, ledger and samples are laid out as the call reads
+    // them, and `&mut` keeps all that is written apart.
     let answer = unsafe {
         sys::codec_ffi_family(
             records.as_ptr(),
@@ -233,6 +239,8 @@ pub fn family(
             r2.errors.as_ptr(),
             r2.errors.len(),
             ledger,
+            sample,
+            samples.counts_mut(),
             d.bases.as_mut_ptr(),
             d.bases.len(),
             d.quals.as_mut_ptr(),

@@ -1,16 +1,18 @@
-//! The proved calls of a CODEC duplex caller, from Rust: a whole family, selection alone, the combining step, the turns of eight
-//! lanes, both conversions of CIGARs, and the check of a partner's table.
+//! The proved calls of a CODEC duplex caller, from Rust: a whole family, the sheet of a run's samples, selection alone, the combining
+//! step, the turns of eight lanes, both conversions of CIGARs, and the check of a partner's table.
 //!
 //! [`family`] stands in the place of the original's `consensus_reads_raw`: records and strands in, the duplex, the rejected
-//! records and the next [`Ledger`] out. It takes all room from the caller, allocates nothing and does not panic.
+//! records and the run's next [`Ledger`] out. Each call names one of 96 samples, for which it is counted too. It takes all room
+//! from the caller, allocates nothing and does not panic.
 //!
 //! ```
-//! use codec_host::{Ending, Ledger, Options, Record, Room, Strand, family};
+//! use codec_host::{Ending, Ledger, Options, Record, Room, Samples, Strand, family};
 //!
 //! let r1 = Record { flags: 65, verdict: true, clipped: 4, position: 100, count: 1, ..Record::default() };
 //! let r2 = Record { flags: 145, position: 102, ..r1 };
 //! let alone = Record { flags: 0, ..r1 };
 //! let strand = Strand { bases: b"ACGT", quals: &[30; 4], depths: &[2; 4], errors: &[0; 4] };
+//! let mut samples = Samples::new();
 //! let mut room = Room::new();
 //! let answer = family(
 //!     &[r1, alone, r2],
@@ -19,6 +21,8 @@
 //!     Some(strand),
 //!     Some(strand),
 //!     Ledger::default(),
+//!     95,
+//!     &mut samples,
 //!     room.lend(),
 //! );
 //! assert_eq!(answer.ending, Ending::Called { length: 6 });
@@ -28,27 +32,49 @@
 //! assert_eq!(rejects, [(1, codec_host::Reason::FragmentRead)]);
 //! assert_eq!((answer.ledger.records, answer.ledger.used), (3, 2));
 //! assert_eq!(answer.ledger.rates().map(|rates| rates.millionths), Ok(1_000_000));
+//! assert_eq!(samples.ledger(95), Some(answer.ledger));
+//! assert_eq!(samples.ledger(94), Some(Ledger::default()));
 //! ```
 //!
-//! Before it go [`select`] and the caller's own single-strand consensus, built of the reads that stay:
+//! [`sheet`] writes a line for each sample with a family, as text into a lent buffer:
 //!
 //! ```
-//! use codec_host::{Ending, Ledger, Marks, Options, Record, Room, Selection, Strand, family, select};
+//! use codec_host::{Ledger, SHEET_ROOM, Samples, sheet};
+//!
+//! let mut samples = Samples::new();
+//! let ledger = Ledger { families: 2, records: 4, duplexes: 1, bases: 15, duplex_bases: 5, ..Ledger::default() };
+//! samples.replace(3, ledger);
+//! let mut buffer = [0; SHEET_ROOM];
+//! let length = sheet(&samples, &mut buffer)?;
+//! let names = "SAMPLE FAMILIES RECORDS FILTERED CALLED BASES DUPLEX DIFFER PPM\n";
+//! assert_eq!(buffer[..length], *format!("{names}3 2 4 0 1 15 5 0 0\n").as_bytes());
+//! assert_eq!(sheet(&samples, &mut [0; 100]).map_err(|refusal| refusal.number), Err(21));
+//! # Ok::<(), codec_host::Refusal>(())
+//! ```
+//!
+//! Before a family call go [`select`] and the caller's own single-strand consensus, built of the reads that stay:
+//!
+//! ```
+//! use codec_host::{
+//!     Ending, Ledger, Marks, Options, Record, Room, Samples, Selection, Strand, family, select,
+//! };
 //!
 //! /// Stands for the single-strand caller.
 //! fn consensus_call(_records: &[Record], _side: &Marks) -> Option<Strand<'static>> {
 //!     Some(Strand { bases: b"ACGT", quals: &[30; 4], depths: &[2; 4], errors: &[0; 4] })
 //! }
 //!
-//! fn call(families: &[(Vec<Record>, Vec<u32>)], options: &Options) -> Ledger {
+//! fn call(families: &[(u32, Vec<Record>, Vec<u32>)], options: &Options) -> (Ledger, Samples) {
 //!     let mut ledger = Ledger::default();
+//!     let mut samples = Samples::new();
 //!     let mut room = Room::new();
-//!     for (records, ops) in families {
+//!     for (sample, records, ops) in families {
 //!         let [r1, r2] = match select(records, ops, options) {
 //!             Selection::Kept { r1, r2, .. } => [r1, r2].map(|side| consensus_call(records, &side)),
 //!             _ => [None, None],
 //!         };
-//!         let answer = family(records, ops, options, r1, r2, ledger, room.lend());
+//!         let answer =
+//!             family(records, ops, options, r1, r2, ledger, *sample, &mut samples, room.lend());
 //!         ledger = answer.ledger;
 //!         if let Ending::Called { length } = answer.ending {
 //!             println!("{}", String::from_utf8_lossy(room.duplex(length).bases));
@@ -57,12 +83,13 @@
 //!             println!("{record} {reason:?}");
 //!         }
 //!     }
-//!     ledger
+//!     (ledger, samples)
 //! }
 //! # let r1 = Record { flags: 65, verdict: true, clipped: 4, position: 100, count: 1, ..Record::default() };
-//! # let families = [(vec![r1, Record { flags: 145, position: 102, ..r1 }], vec![64]), (vec![r1], vec![64])];
-//! # let ledger = call(&families, &Options::default());
+//! # let pair = vec![r1, Record { flags: 145, position: 102, ..r1 }];
+//! # let (ledger, samples) = call(&[(1, pair, vec![64]), (2, vec![r1], vec![64])], &Options::default());
 //! # assert_eq!((ledger.families, ledger.duplexes, ledger.bases), (2, 1, 6));
+//! # assert_eq!([0, 1, 2].map(|sample| samples.ledger(sample).unwrap().duplexes), [0, 1, 0]);
 //! ```
 //!
 //! [`combine`] takes depths and errors as `u16`, [`combine_bytes`] as byte pairs, low byte first. Neither panics,
@@ -155,6 +182,7 @@ mod dispatch;
 mod family;
 mod partner;
 mod room;
+mod samples;
 mod select;
 mod sys;
 pub mod text;
@@ -166,6 +194,7 @@ pub use family::{
 };
 pub use partner::{Check, Table, check_table};
 pub use room::Room;
+pub use samples::{SAMPLES, SHEET_ROOM, Samples, sheet};
 pub use select::{MAX_RECORDS, Marks, Options, Record, Selection, select};
 
 // The exported call wants the low byte first, as `u16` lies in memory on the only machine the library is made for.

@@ -75,6 +75,12 @@ pub struct FamilyAnswer {
 }
 
 #[repr(C)]
+pub struct SheetAnswer {
+    pub number: u32,
+    pub length: u64,
+}
+
+#[repr(C)]
 pub struct DispatchAnswer {
     pub kind: u32,
     pub lane: u32,
@@ -171,6 +177,12 @@ unsafe extern "C" {
 
     pub fn codec_ffi_rates(ledger: Ledger) -> RatesAnswer;
 
+    pub fn codec_ffi_sheet(
+        samples: *const [u64; 1_920],
+        out: *mut u8,
+        out_len: usize,
+    ) -> SheetAnswer;
+
     pub fn codec_ffi_family(
         records: *const Record,
         records_len: usize,
@@ -196,6 +208,8 @@ unsafe extern "C" {
         r2_errors: *const u16,
         r2_errors_len: usize,
         ledger: Ledger,
+        sample: u32,
+        samples: *mut [u64; 1_920],
         d_bases: *mut u8,
         d_bases_len: usize,
         d_quals: *mut u8,

@@ -1,7 +1,8 @@
 //! Answerers of family calls: the original, the plain reader, and programs run beside them.
 
+use crate::callers::Callers;
 use crate::driver;
-use crate::model::{Call, Ledger};
+use crate::model::{Books, Call, Ledger};
 use crate::plain::Reader;
 use crate::text;
 use std::fs::File;
@@ -31,15 +32,61 @@ impl Form {
     }
 }
 
+/// What goes from call to call.
+#[derive(Default)]
+pub struct State {
+    pub books: Books,
+    /// The sample named last; until then calls are for sample 0.
+    named: Option<u32>,
+    callers: Callers,
+}
+
+impl State {
+    /// The lines before a call.
+    pub fn open(&mut self, call: &Call) {
+        self.books.run = call.ledger.unwrap_or(self.books.run);
+        self.named = call.sample.or(self.named);
+        for (sample, ledger) in &call.sample_ledgers {
+            self.books.samples[*sample as usize] = *ledger;
+        }
+    }
+
+    pub fn sample(&self) -> u32 {
+        self.named.unwrap_or(0)
+    }
+
+    /// The call with all that it meets here, so that it can be asked alone.
+    pub fn met(&self, call: &Call) -> Call {
+        let here = (0u32..).zip(self.books.samples.iter().copied());
+        let mut sample_ledgers: Vec<(u32, Ledger)> =
+            here.filter(|(_, ledger)| *ledger != Ledger::default()).collect();
+        let set = |sample: u32| call.sample_ledgers.iter().any(|(other, _)| *other == sample);
+        sample_ledgers.retain(|(sample, _)| !set(*sample));
+        sample_ledgers.extend(&call.sample_ledgers);
+        Call {
+            ledger: call.ledger.or(Some(self.books.run)),
+            sample: call.sample.or(self.named),
+            sample_ledgers,
+            family: call.family.clone(),
+        }
+    }
+
+    /// The named sample, where it is one, with its ledger.
+    fn named(&self) -> Option<(u32, Ledger)> {
+        let sample = self.named?;
+        Some((sample, *self.books.samples.get(sample as usize)?))
+    }
+}
+
 /// Without a reader the original answers.
 #[derive(Clone, Copy)]
 pub struct Answerer(pub Option<Reader>);
 
 impl Answerer {
-    /// The lines of one answer; the ledger is moved on.
-    pub fn block(&self, form: Form, call: &Call, ledger: &mut Ledger) -> String {
+    /// The lines of one answer; the ledgers are moved on.
+    pub fn block(&self, form: Form, call: &Call, state: &mut State) -> String {
         let mut out = String::new();
-        *ledger = call.ledger.unwrap_or(*ledger);
+        state.open(call);
         match form {
             Form::Selection => text::write::selection(
                 &mut out,
@@ -49,22 +96,27 @@ impl Answerer {
                 },
             ),
             Form::Family => {
+                let (family, sample) = (&call.family, state.sample());
                 let answer = match self.0 {
-                    Some(reader) => reader.family_call(&call.family, ledger),
-                    None => driver::family_call(&call.family, ledger),
+                    Some(reader) => reader.family_call(family, sample, &state.books),
+                    None => driver::family_call(family, sample, &state.books, &mut state.callers),
                 };
-                text::write::answer(&mut out, &answer, ledger);
-                if let Ok(answer) = answer {
-                    *ledger = answer.ledger;
+                if let Ok(answer) = &answer {
+                    state.books = answer.books.clone();
                 }
+                text::write::answer(&mut out, &answer, &state.books.run, state.named());
             }
         }
         out
     }
 
-    pub fn blocks<'a>(&self, form: Form, calls: impl Iterator<Item = &'a Call>) -> Vec<String> {
-        let mut ledger = Ledger::default();
-        calls.map(|call| self.block(form, call, &mut ledger)).collect()
+    /// From fresh ledgers on.
+    pub fn blocks(&self, form: Form, calls: &[Call]) -> Vec<String> {
+        self.blocks_from(&mut State::default(), form, calls)
+    }
+
+    pub fn blocks_from(&self, state: &mut State, form: Form, calls: &[Call]) -> Vec<String> {
+        calls.iter().map(|call| self.block(form, call, state)).collect()
     }
 }
 

@@ -1,27 +1,37 @@
 //! How well the generated families tell wrong readings apart.
 
+use crate::answers::State;
+use crate::callers::Callers;
 use crate::driver;
-use crate::model::{Answer, Call, Ending, Ledger, Refusal, Selection};
+use crate::model::{Answer, Books, Call, Ending, Refusal, Selection};
 use crate::plain::Reader;
 use crate::plain::wrong::{ALL, Wrong};
 
-/// A call with the ledger it meets and the original's answers.
+/// A call with the ledgers it meets and the original's answers.
 pub struct Asked {
     pub call: Call,
-    ledger: Ledger,
+    sample: u32,
+    books: Books,
     family: Result<Answer, Refusal>,
     selection: Result<Selection, Refusal>,
 }
 
 impl Asked {
-    pub fn new(call: Call, ledger: Ledger) -> Self {
-        let family = driver::family_call(&call.family, &ledger);
-        let selection = driver::selection(&call.family);
-        Self { call, ledger, family, selection }
+    /// Asked alone, with what its own lines set.
+    pub fn alone(call: &Call) -> Self {
+        Self::after(&mut State::default(), call)
     }
 
-    pub fn ledger_after(&self) -> Ledger {
-        self.family.as_ref().map_or(self.ledger, |answer| answer.ledger)
+    /// Asked behind other calls; the ledgers are moved on.
+    pub fn after(state: &mut State, call: &Call) -> Self {
+        state.open(call);
+        let (sample, books) = (state.sample(), state.books.clone());
+        let family = driver::family_call(&call.family, sample, &books, &mut Callers::default());
+        if let Ok(answer) = &family {
+            state.books = answer.books.clone();
+        }
+        let selection = driver::selection(&call.family);
+        Self { call: call.clone(), sample, books, family, selection }
     }
 
     /// The ending, with its reason or the refusal's number.
@@ -39,7 +49,7 @@ impl Asked {
     pub fn tells_apart(&self, wrong: Wrong) -> [bool; 2] {
         let reader = Reader(Some(wrong));
         [
-            reader.family_call(&self.call.family, &self.ledger) != self.family,
+            reader.family_call(&self.call.family, self.sample, &self.books) != self.family,
             reader.selection(&self.call.family) != self.selection,
         ]
     }
@@ -49,10 +59,9 @@ impl Asked {
 pub fn report(calls: Vec<Call>) -> Result<(), String> {
     let families = calls.len();
     let mut counts = vec![[0usize; 2]; ALL.len()];
-    let mut ledger = Ledger::default();
-    for call in calls {
-        let asked = Asked::new(call.clone(), call.ledger.unwrap_or(ledger));
-        ledger = asked.ledger_after();
+    let mut state = State::default();
+    for call in &calls {
+        let asked = Asked::after(&mut state, call);
         for (count, (wrong, _)) in counts.iter_mut().zip(ALL) {
             let [family, selection] = asked.tells_apart(*wrong);
             count[0] += usize::from(family);

@@ -2,6 +2,24 @@
 
 use crate::model::{Call, Family, Options, Record, Strand};
 
+/// Request 01's: two samples, a rejected family, and two refused ones that leave no trace.
+pub fn named() -> Vec<Call> {
+    let of = |bases: [&[u8; 10]; 2], minimum: u64, sample: u32| {
+        let strand = |bases: &[u8; 10]| Strand {
+            bases: bases.to_vec(),
+            quals: vec![30; 10],
+            depths: vec![3; 10],
+            errors: vec![0; 10],
+        };
+        let pair: [Read<'_>; 2] = [(R1_FORWARD, 100, &[(10, M)]), (R2_REVERSE, 105, &[(10, M)])];
+        let mut family = family(&[pair], bases.map(|bases| Some(strand(bases))));
+        family.options.min_duplex_length = minimum;
+        Call { sample: Some(sample), ..Call::new(family) }
+    };
+    let [one, same] = [[b"AAAAAAAAAC", b"TTTTTTTTTT"], [b"AAAAAAAAAA", b"TTTTTTTTTT"]];
+    vec![of(one, 1, 3), of(same, 1, 95), of(same, 6, 95), of(one, 1, 96), of(one, 1 << 31, 3)]
+}
+
 /// A record's flags, position, and operations as length and code.
 type Read<'a> = (u16, u32, &'a [(u32, u8)]);
 
@@ -14,7 +32,7 @@ const R2_REVERSE: u16 = 1 + 16 + 128;
 
 pub fn calls() -> Vec<Call> {
     let families = [vec![alignment_group()], windows(), vec![positions()]];
-    families.concat().into_iter().map(|family| Call { ledger: None, family }).collect()
+    families.concat().into_iter().map(Call::new).collect()
 }
 
 fn family(pairs: &[[Read<'_>; 2]], strands: [Option<Strand>; 2]) -> Family {

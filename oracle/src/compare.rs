@@ -1,8 +1,8 @@
 //! Holds answerers against the original, family by family.
 
-use crate::answers::{Answerer, Form, run, split, written};
-use crate::generate::Calls;
-use crate::model::{Call, Ledger};
+use crate::answers::{Answerer, Form, State, run, split, written};
+use crate::generate::Named;
+use crate::model::Call;
 use crate::plain::Reader;
 use crate::shrink::smallest;
 use std::collections::BTreeMap;
@@ -13,12 +13,12 @@ const TRIES_WITHIN: usize = 20_000;
 
 /// The plain reader on N generated families, in both forms.
 pub fn with_plain(seed: u64, families: usize) -> Result<(), String> {
-    let calls: Vec<Call> = Calls::new(seed).take(families).collect();
+    let calls: Vec<Call> = Named::new(seed).take(families).collect();
     for form in [Form::Family, Form::Selection] {
-        let expected = Answerer(None).blocks(form, calls.iter());
-        let found = Answerer(Some(Reader(None))).blocks(form, calls.iter());
+        let expected = Answerer(None).blocks(form, &calls);
+        let found = Answerer(Some(Reader(None))).blocks(form, &calls);
         let answer =
-            |call: &Call| Answerer(Some(Reader(None))).block(form, call, &mut Ledger::default());
+            |call: &Call| Answerer(Some(Reader(None))).block(form, call, &mut State::default());
         report(form, &calls, &expected, &found, TRIES_WITHIN, answer)?;
         if form == Form::Family {
             let mut endings = Endings::default();
@@ -35,21 +35,20 @@ pub fn with_plain(seed: u64, families: usize) -> Result<(), String> {
 /// Generated families that a program is given at once: enough to make its start cheap, few enough to hold in memory.
 const AT_ONCE: usize = 10_000;
 
-/// A program on N generated families, part by part; each part begins with the ledger that the one before left.
+/// A program on N generated families, part by part; each part begins with the ledgers that the one before left.
 pub fn with_program_on(
     form: Form,
     program: &str,
     seed: u64,
     families: usize,
 ) -> Result<(), String> {
-    let mut generated = Calls::new(seed).take(families).peekable();
-    let mut ledger = Ledger::default();
+    let mut generated = Named::new(seed).take(families).peekable();
+    let mut state = State::default();
     let mut endings = Endings::default();
     while generated.peek().is_some() {
         let mut calls: Vec<Call> = generated.by_ref().take(AT_ONCE).collect();
-        calls[0].ledger.get_or_insert(ledger);
-        let expected = with_calls(form, program, &calls)?;
-        ledger = ledger_of(expected.last()).unwrap_or(ledger);
+        calls[0] = state.met(&calls[0]);
+        let expected = with_calls(form, program, &calls, &mut state)?;
         endings.count(&calls, &expected);
     }
     println!("{program}: {families} families of seed {seed}: no difference");
@@ -57,23 +56,21 @@ pub fn with_program_on(
     Ok(())
 }
 
-/// What an answer says of the ledger after it.
-fn ledger_of(block: Option<&String>) -> Option<Ledger> {
-    let figures = block?.lines().find_map(|line| line.strip_prefix("T "))?;
-    let figures: Result<Vec<u64>, _> = figures.split(' ').map(str::parse).collect();
-    figures.ok()?.try_into().ok().map(Ledger)
-}
-
 /// A program on the calls given.
 pub fn with_program(form: Form, program: &str, calls: &[Call]) -> Result<(), String> {
-    with_calls(form, program, calls)?;
+    with_calls(form, program, calls, &mut State::default())?;
     println!("{program}: {} families: no difference", calls.len());
     Ok(())
 }
 
 /// The original's answers, which are the program's too.
-fn with_calls(form: Form, program: &str, calls: &[Call]) -> Result<Vec<String>, String> {
-    let expected = Answerer(None).blocks(form, calls.iter());
+fn with_calls(
+    form: Form,
+    program: &str,
+    calls: &[Call],
+    state: &mut State,
+) -> Result<Vec<String>, String> {
+    let expected = Answerer(None).blocks_from(state, form, calls);
     let found = split(form, &run(program, &written(calls))?);
     let answer =
         |call: &Call| run(program, &written(std::slice::from_ref(call))).unwrap_or_default();
@@ -96,7 +93,7 @@ fn report(
         let surplus = found.len() > expected.len();
         return if surplus { Err("more answers than families".to_string()) } else { Ok(()) };
     };
-    let right = |call: &Call| Answerer(None).block(form, call, &mut Ledger::default());
+    let right = |call: &Call| Answerer(None).block(form, call, &mut State::default());
     let differs = |call: &Call| right(call) != answer(call);
     // After one wrong ledger all later ones are wrong too: look first where another line differs.
     let own = |at: &usize| without_ledger(&expected[*at]) != without_ledger(other(*at));
@@ -115,18 +112,18 @@ fn report(
 }
 
 fn without_ledger(block: &str) -> Vec<&str> {
-    block.lines().filter(|line| !line.starts_with("T ")).collect()
+    block.lines().filter(|line| !line.starts_with("T ") && !line.starts_with("TS ")).collect()
 }
 
-/// The shortest of the families that differ also when asked alone, behind the ledger they met.
+/// The shortest of the families that differ also when asked alone, with the ledgers they met.
 fn shortest_alone(calls: &[Call], mut unlike: Vec<usize>, differs: impl Fn(&Call) -> bool) -> Call {
-    let mut ledger = Ledger::default();
+    let mut state = State::default();
     let met: Vec<Call> = calls
         .iter()
         .map(|call| {
-            let before = call.ledger.unwrap_or(ledger);
-            Answerer(None).block(Form::Family, call, &mut ledger);
-            Call { ledger: Some(before), ..call.clone() }
+            let met = state.met(call);
+            Answerer(None).block(Form::Family, call, &mut state);
+            met
         })
         .collect();
     let first = unlike[0];

@@ -1,14 +1,17 @@
 //! Drives the original with a family and reads its answer off what it says and leaves behind.
 
-use crate::model::{Answer, Ending, Family, Ledger, Options, Refusal, Selection, Strand, marks_of};
+use crate::callers::Callers;
+use crate::model::{
+    Answer, Books, Ending, Family, Marks, Options, Refusal, Selection, Strand, marks_of,
+};
 use crate::refusal;
 use fgumi_raw_bam::{Fields, RawRecord};
 use original::caller::RejectionReason;
-use original::codec_caller::{CodecConsensusOptions, Seen, call_family};
+use original::codec_caller::{CodecConsensusOptions, LastingCaller, Seen, call_family};
 use original::trace::Columns;
 
 /// Document 01's reasons 1 to 10.
-const REASONS: [RejectionReason; 10] = [
+pub const REASONS: [RejectionReason; 10] = [
     RejectionReason::FragmentRead,
     RejectionReason::NotPrimaryFrPair,
     RejectionReason::InsufficientReads,
@@ -24,24 +27,50 @@ const REASONS: [RejectionReason; 10] = [
 /// Reasons that end a family; 1, 2, 4 and 5 fall on single records.
 const ENDING: [u8; 6] = [3, 6, 7, 8, 9, 10];
 
-fn number(reason: RejectionReason) -> u8 {
+pub fn number(reason: RejectionReason) -> u8 {
     let at = REASONS.iter().position(|&known| known == reason);
     at.expect("the codec caller has these ten") as u8 + 1
 }
 
-pub fn family_call(family: &Family, ledger: &Ledger) -> Result<Answer, Refusal> {
-    if let Some(refusal) =
-        refused_selection(family).or_else(|| refusal::of_the_rest(family, ledger))
-    {
+/// The run's caller and the sample's are asked in turn, and give the same answer.
+pub fn family_call(
+    family: &Family,
+    sample: u32,
+    books: &Books,
+    callers: &mut Callers,
+) -> Result<Answer, Refusal> {
+    let refused = refusal::of_sample(sample).or_else(|| refused_selection(family)).or_else(|| {
+        let own = &books.samples[sample as usize];
+        refusal::of_the_rest(family, [&books.run, own])
+    });
+    if let Some(refusal) = refused {
         return Err(refusal);
     }
-    let seen = call_family(options(&family.options), strands(family), &records(family));
+    let (told, again, books) = callers.call(family, sample, books);
+    assert_eq!(told, again, "the run's caller and the sample's");
+    let Told { ending, list, marks } = told;
+    Ok(Answer { ending, list, marks, books })
+}
+
+/// What one caller answers.
+#[derive(Debug, PartialEq)]
+pub struct Told {
+    pub ending: Ending,
+    pub list: Vec<(usize, u8)>,
+    pub marks: Marks,
+}
+
+/// The answer of this caller, with what it left behind.
+pub fn told(caller: &mut LastingCaller, family: &Family) -> (Told, Seen) {
+    let seen = caller.call(options(&family.options), strands(family), &records(family));
     let list = list(&seen);
-    check_against_stats(&seen, &list, family.records.len());
+    assert!(list.windows(2).all(|pair| pair[0].0 < pair[1].0), "a record is rejected once");
+    assert_eq!(seen.marks.len(), family.records.len());
+    assert_eq!(matches!(seen.result, Ok(1)), seen.trace.columns.is_some());
+    assert_eq!(seen.result.is_err(), list.iter().any(|(_, reason)| *reason == 10));
     let ending = ending(&seen, &list);
     let marks = marks_of(seen.marks.iter().enumerate().filter(|(_, m)| **m).map(|(i, _)| i));
-    let ledger = added(ledger, &seen, &list, &ending);
-    Ok(Answer { ending, list, marks, ledger })
+    (Told { ending, list, marks }, seen)
 }
 
 /// Steps 1 to 7: with no strand to hand over the original goes exactly that far.
@@ -158,47 +187,4 @@ fn ending(seen: &Seen, list: &[(usize, u8)]) -> Ending {
     }
     let reason = list.iter().map(|(_, reason)| *reason).find(|reason| ENDING.contains(reason));
     reason.map_or(Ending::Empty, Ending::Rejected)
-}
-
-/// The trace lines must tell the same story as the original's own counters, marks and result.
-fn check_against_stats(seen: &Seen, list: &[(usize, u8)], records: usize) {
-    assert!(list.windows(2).all(|pair| pair[0].0 < pair[1].0), "a record is rejected once");
-    for reason in REASONS {
-        let listed = list.iter().filter(|(_, r)| *r == number(reason)).count();
-        let counted = seen.stats.rejection_reasons.get(&reason).copied().unwrap_or(0);
-        assert_eq!(listed, counted, "{reason:?}");
-    }
-    assert_eq!(seen.stats.reads_filtered as usize, list.len());
-    assert_eq!(seen.marks.len(), records);
-    let called = matches!(seen.result, Ok(1));
-    assert_eq!(called, seen.trace.columns.is_some());
-    assert_eq!(seen.result.is_err(), list.iter().any(|(_, reason)| *reason == 10));
-}
-
-/// Counters of the original where it has them; the fates it has no counter for by what is left.
-fn added(before: &Ledger, seen: &Seen, list: &[(usize, u8)], ending: &Ending) -> Ledger {
-    let stats = &seen.stats;
-    let mut ledger = *before;
-    let mut add = |place: usize, figure: u64| ledger.0[place] += figure;
-    add(Ledger::FAMILIES, 1);
-    add(Ledger::RECORDS, stats.total_input_reads);
-    for reason in REASONS {
-        let figure = stats.rejection_reasons.get(&reason).copied().unwrap_or(0);
-        add(Ledger::REASONS + usize::from(number(reason)), figure as u64);
-    }
-    let through = match (ending, &seen.trace.selected) {
-        (Ending::Called(_) | Ending::NoStrand, Some(selected)) => {
-            selected.kept.iter().map(Vec::len).sum()
-        }
-        _ => 0,
-    };
-    let place = if *ending == Ending::NoStrand { Ledger::NO_STRAND } else { Ledger::USED };
-    add(place, through as u64);
-    add(Ledger::PASSED_OVER, stats.total_input_reads - (list.len() + through) as u64);
-    add(Ledger::REJECTED_FAMILIES, stats.consensus_reads_rejected_hdd);
-    add(Ledger::DUPLEXES, stats.consensus_reads_generated);
-    add(Ledger::BASES, stats.consensus_bases_emitted);
-    add(Ledger::DUPLEX_BASES, stats.consensus_duplex_bases_emitted);
-    add(Ledger::DISAGREEMENTS, stats.duplex_disagreement_base_count);
-    ledger
 }

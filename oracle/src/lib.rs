@@ -2,6 +2,7 @@
 
 pub mod answers;
 pub mod bite;
+pub mod callers;
 pub mod cases;
 pub mod combine;
 pub mod compare;
@@ -12,5 +13,6 @@ pub mod partner;
 pub mod plain;
 pub mod refusal;
 pub mod sample;
+pub mod sheet;
 pub mod shrink;
 pub mod text;

@@ -4,17 +4,19 @@ use oracle::answers::{Answerer, Form, written};
 use oracle::model::Call;
 use oracle::plain::Reader;
 use oracle::plain::wrong::ALL;
-use oracle::{bite, combine, compare, generate, partner, sample, text};
+use oracle::{bite, combine, compare, generate, partner, sample, sheet, text};
 use std::io::{Read, Write};
 
 const USAGE: &str = "usage, FORM being family or select:
   oracle answer FORM                     the original's answers to the families of standard input
   oracle plain FORM                      the plain reader's
+  oracle sheet                           the samples' sheet after these families, by the original's counters
   oracle combine                         the original's answers to columns in the C form
   oracle table                           what duplex-table writes, combined by the original
   oracle generate SEED N                 N families
   oracle columns SEED N                  N positions as columns in the C form
-  oracle sample SEED N                   a short list out of N families that covers everything
+  oracle sample SEED N                   a short list out of N families that covers everything but the samples
+  oracle sample-named SEED N             a short list that covers these
   oracle bite SEED N                     how many of N families tell each wrong reading apart
   oracle bite-list                       the same for the families of standard input
   oracle misread NAME FORM               answers of the plain reader with one wrong reading
@@ -24,6 +26,7 @@ const USAGE: &str = "usage, FORM being family or select:
   oracle against-list FORM PROGRAM FILE  the same on the families of a file
   oracle against-columns PROGRAM SEED N  original and a program for the C form on N positions
   oracle against-table PROGRAM SEED N    original and duplex-table on N positions
+  oracle against-sheet PROGRAM SEED N    sheets of the original's counters and a program's on N families
   oracle against-partner PROGRAM SEED N  second reader and check_table on N positions and broken copies of them";
 
 fn main() {
@@ -42,7 +45,7 @@ type Done = Option<Result<(), String>>;
 fn answer(words: &[&str]) -> Done {
     let blocks = |form, answerer: Answerer| {
         let calls = text::read::calls(&input());
-        show(&answerer.blocks(form, calls.iter()).concat())
+        show(&answerer.blocks(form, &calls).concat())
     };
     Some(match words {
         ["answer", form] => blocks(Form::named(form)?, Answerer(None)),
@@ -51,6 +54,7 @@ fn answer(words: &[&str]) -> Done {
             let (wrong, _) = ALL.iter().find(|(wrong, _)| format!("{wrong:?}") == *name)?;
             blocks(Form::named(form)?, Answerer(Some(Reader(Some(*wrong)))))
         }
+        ["sheet"] => show(&sheet::answer(&text::read::calls(&input()))),
         ["bite-list"] => bite::report(text::read::calls(&input())),
         ["combine"] => {
             let pairs = text::columns::pairs(&input());
@@ -74,6 +78,7 @@ fn make(words: &[&str]) -> Done {
             show(&out)
         }
         "sample" => show(&written(&sample::calls(seed, n))),
+        "sample-named" => show(&written(&sample::named(seed, n))),
         "bite" => bite::report(generated(seed, n)),
         "agree" => compare::with_plain(seed, n),
         "agree-columns" => combine::with_plain(seed, n),
@@ -100,6 +105,9 @@ fn compare(words: &[&str]) -> Done {
         ["against-table", program, seed, n] => {
             combine::with_table_program(program, seed.parse().ok()?, n.parse().ok()?)
         }
+        ["against-sheet", program, seed, n] => {
+            sheet::with_program(program, seed.parse().ok()?, n.parse().ok()?)
+        }
         ["against-partner", program, seed, n] => {
             partner::with_program(program, seed.parse().ok()?, n.parse().ok()?)
         }
@@ -108,7 +116,7 @@ fn compare(words: &[&str]) -> Done {
 }
 
 fn generated(seed: u64, n: usize) -> Vec<Call> {
-    generate::Calls::new(seed).take(n).collect()
+    generate::Named::new(seed).take(n).collect()
 }
 
 /// Bytes that are no text can only be malformed, and stay so.

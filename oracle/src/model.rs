@@ -91,11 +91,37 @@ impl Ledger {
     pub const DISAGREEMENTS: usize = 19;
 }
 
+/// Samples of a run: their numbers are below this.
+pub const SAMPLES: u32 = 96;
+
+/// The run's ledger, and one for each sample.
+#[derive(Debug, Clone, PartialEq)]
+pub struct Books {
+    pub run: Ledger,
+    pub samples: Vec<Ledger>,
+}
+
+impl Default for Books {
+    fn default() -> Self {
+        Self { run: Ledger::default(), samples: vec![Ledger::default(); SAMPLES as usize] }
+    }
+}
+
 /// One family of a list; a ledger here replaces the one left by the call before.
 #[derive(Debug, Clone, PartialEq)]
 pub struct Call {
     pub ledger: Option<Ledger>,
+    /// The sample of this call and of those after it.
+    pub sample: Option<u32>,
+    pub sample_ledgers: Vec<(u32, Ledger)>,
     pub family: Family,
+}
+
+impl Call {
+    /// With what the call before left, for the sample that it named.
+    pub fn new(family: Family) -> Self {
+        Self { ledger: None, sample: None, sample_ledgers: Vec::new(), family }
+    }
 }
 
 /// Document 01's number of a refusal and what goes with it.
@@ -119,7 +145,7 @@ pub struct Answer {
     /// Record and reason, sorted by record.
     pub list: Vec<(usize, u8)>,
     pub marks: Marks,
-    pub ledger: Ledger,
+    pub books: Books,
 }
 
 #[derive(Debug, Clone, PartialEq)]

@@ -1,6 +1,6 @@
-//! Refusals 1 to 11, from document 01's table, tested before the original is asked.
+//! Refusals 1 to 11 from document 01's table and request 01's 20, tested before the original is asked.
 
-use crate::model::{Family, Ledger, Record, Refusal, Strand};
+use crate::model::{Family, Ledger, Record, Refusal, SAMPLES, Strand};
 
 const REFERENCE_LIMIT: u64 = 536_870_911;
 
@@ -16,6 +16,11 @@ const TAKES: [(bool, bool); 9] = [
     (true, true),
     (true, true),
 ];
+
+/// Refusal 20, which comes before all others.
+pub fn of_sample(sample: u32) -> Option<Refusal> {
+    (sample >= SAMPLES).then_some(Refusal(20, 0))
+}
 
 /// Refusals 1 and 2, which come before any record is looked at.
 pub fn of_sizes(family: &Family) -> Option<Refusal> {
@@ -67,20 +72,25 @@ fn bad_place(family: &Family, record: &Record) -> bool {
     position == 0 || position > REFERENCE_LIMIT || reference > REFERENCE_LIMIT
 }
 
-/// Refusals 7 to 11: strands present, room lent, ledger given.
-pub fn of_the_rest(family: &Family, ledger: &Ledger) -> Option<Refusal> {
+/// Refusals 7 to 11: strands present, room lent, the run's and the sample's ledger given.
+pub fn of_the_rest(family: &Family, ledgers: [&Ledger; 2]) -> Option<Refusal> {
     let strand = |number, is_bad: fn(&Strand) -> bool| {
         let at = family.strands.iter().position(|s| s.as_ref().is_some_and(is_bad))?;
         Some(Refusal(number, at as u64))
     };
     let other = |number, is_bad: bool| is_bad.then_some(Refusal(number, 0));
     let [columns, list, marks] = family.room;
-    let [families, counts @ ..] = &ledger.0;
+    let any = |is_bad: fn(&Ledger) -> bool| ledgers.into_iter().any(is_bad);
     strand(7, uneven)
         .or_else(|| strand(8, odd_base))
         .or_else(|| other(9, columns < 2_048 || list < 512 || marks < 8))
-        .or_else(|| other(10, *families > 1 << 28 || counts.iter().any(|&n| n > 1 << 41)))
-        .or_else(|| other(11, *families == 1 << 28))
+        .or_else(|| other(10, any(too_large)))
+        .or_else(|| other(11, any(|ledger| ledger.0[Ledger::FAMILIES] == 1 << 28)))
+}
+
+fn too_large(ledger: &Ledger) -> bool {
+    let [families, counts @ ..] = &ledger.0;
+    *families > 1 << 28 || counts.iter().any(|&n| n > 1 << 41)
 }
 
 fn uneven(strand: &Strand) -> bool {

@@ -27,7 +27,16 @@ fn weight(call: &Call) -> (usize, String) {
 }
 
 fn candidates(call: &Call) -> Vec<Call> {
-    let mut found = vec![Call { ledger: None, ..call.clone() }];
+    let mut found = vec![
+        Call { ledger: None, ..call.clone() },
+        Call { sample: None, ..call.clone() },
+        Call { sample_ledgers: Vec::new(), ..call.clone() },
+    ];
+    for place in 0..call.sample_ledgers.len() {
+        let mut fewer = call.clone();
+        fewer.sample_ledgers.remove(place);
+        found.push(fewer);
+    }
     let mut offer = |change: &dyn Fn(&mut Family)| {
         let mut candidate = call.clone();
         change(&mut candidate.family);

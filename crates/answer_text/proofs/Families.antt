@@ -9,10 +9,9 @@ use Rattle.codec_family.specs.Call.{Lent}
 use Rattle.codec_family.specs.declared.answer.FamilyAnswer.{FamilyAnswer}
 use Rattle.table_text.specs.OutputTable.{Stored}
 use Rattle.table_text.specs.Text.{bytesOf}
-use Rattle.table_text.proofs.Stores.{stored-then}
+use Rattle.table_text.proofs.Stores.{none-stored, stored-then}
 use Rattle.answer_text.specs.FamilyText.{endingText, listText, ledgerText, columnsText, resultsText, familyText}
 use Rattle.answer_text.specs.Line.{lineText}
-use Rattle.answer_text.proofs.Lines.{none-stored}
 
 module _ (answer : FamilyAnswer) (lent : Lent) (old : List ℕ) (to : ℕ) where
   -- how it ends, the results, the ledger

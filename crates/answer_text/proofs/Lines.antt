@@ -1,17 +1,17 @@
 -- Laws of a line, written part by part.
 use mathlib.Core.List.{List, [], _∷_, _++_, append-assoc, append-nil}
-use mathlib.Core.Path.{_≡_, refl, _∙_, ap}
-use Prim.Native.Nat.{ℕ, suc, _+_, _-_, _*_, _^_, _≤_, _<_}
-use native.Mathlib.Numerals.{add-one}
+use mathlib.Core.Path.{_≡_, sym}
+use Prim.Native.Nat.{ℕ, zero, suc, _+_, _-_, _^_, _≤_, _<_}
 use native.Mathlib.Omega.{arith}
 use borrow.Rule.Slice.PartMut.{midOf, putMid}
 use lib.ListN.{length, getD, take, drop, length-drop, drop-of-length-le}
-use lib.Seq.{sets, sets-eq, length-sets, take-all, take-length, drop-drop}
+use lib.Seq.{sets, sets-eq, take-all, take-length, drop-drop}
 use Rattle.table_text.specs.Decimal.{decimal}
 use Rattle.table_text.specs.OutputTable.{Stored}
 use Rattle.table_text.proofs.Decimals.{length-decimal}
 use Rattle.table_text.proofs.Stores.{stored-then}
-use Rattle.answer_text.specs.Line.{texts, lineWith}
+use Rattle.table_text.specs.Texts.{texts}
+use Rattle.answer_text.specs.Line.{fieldsText, lineWith}
 
 -- a text copied to the front of the part that begins at a place is stored there
 pub copied-stored : (text old new : List ℕ) (to : ℕ) → to + length text ≤ length old → new ≡ take (length text) text ++ drop (length text) (midOf to (length old - to) old)
@@ -21,34 +21,16 @@ copied-stored text old new to h e =
     let after : drop (length old - to) (drop to old) ≡ [] = drop-of-length-le (drop to old) {i = length old - to} (simp length-drop (omega arith)) in
     rw (e, whole, after, take-length, append-nil, drop-drop, sets-eq text old to h, append-assoc)
 
--- nothing is stored
-pub none-stored : (old : List ℕ) (to : ℕ) → Stored [] old to old to
-none-stored old to = (omega arith, refl)
+-- the text at the first place, and those after it
+texts-first : (at : ℕ → List ℕ) (n : ℕ) → texts at (suc n) ≡ at 0 ++ texts (λ i. at (suc i)) n
+unfolding texts
+texts-first at zero = sym (append-nil (at 0))
+texts-first at (suc n) = rw (texts-first at n) (append-assoc (at 0) (texts (λ i. at (suc i)) n) (at (suc n)))
 
--- the texts of the first i places are stored, each at most so wide
-pub record Storing (at : ℕ → List ℕ) (width : ℕ) (old : List ℕ) (to : ℕ) (new : List ℕ) (end i : ℕ) : Type 0 where
-  pub stored : Stored (texts at i) old to new end
-  pub within : end ≤ to + width * i
-  pub size : length new ≡ length old
-
-module _ (at : ℕ → List ℕ) (width : ℕ) (old : List ℕ) (to : ℕ) where
-  pub storing-none : Storing at width old to old to 0
-  unfolding texts
-  storing-none = record { stored = (omega arith, refl); within = omega arith; size = refl }
-
-  -- the text of the next place
-  pub storing-more : {mid new : List ℕ} {end after i : ℕ} → Storing at width old to mid end i → Stored (at i) mid end new after → length (at i) ≤ width → Storing at width old to new after (i + 1)
-  unfolding texts
-  storing-more {mid} {new} {end} {after} {i} before next short =
-      record {
-        stored = rw add-one (stored-then (texts at i) (at i) old to (before .stored) next);
-        within = omega (arith, before .within, next .0);
-        size = ap length (next .1) ∙ length-sets mid end (at i) ∙ before .size;
-      }
-
--- the last place is stored
-pub storing-all : (at : ℕ → List ℕ) (width : ℕ) {old : List ℕ} {to : ℕ} {new : List ℕ} {end i n : ℕ} → Storing at width old to new end i → i ≤ n → n ≤ i → Stored (texts at n) old to new end × (end ≤ to + width * n)
-storing-all at width {i = i} {n = n} storing most least = let all : i ≡ n = omega arith in (rw all at (storing .stored), rw all at (storing .within))
+-- a number and those after it
+pub fields-first : (n : ℕ) (numbers : List ℕ) → fieldsText (n ∷ numbers) ≡ (32 ∷ decimal n) ++ fieldsText numbers
+unfolding fieldsText
+fields-first n numbers = texts-first (λ i. 32 ∷ decimal (getD (n ∷ numbers) i 0)) (length numbers)
 
 -- the number at a place, after a space
 abbrev pub fieldAt : List ℕ → ℕ → List ℕ

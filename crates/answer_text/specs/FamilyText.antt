@@ -16,7 +16,8 @@ use Rattle.codec_family.specs.declared.answer.FamilyAnswer.{FamilyAnswer}
 use Rattle.codec_family.specs.declared.answer.FamilyEnding.{FamilyEnding}
 use Rattle.table_text.specs.Decimal.{decimal}
 use Rattle.table_text.specs.Text.{bytesOf, space}
-use Rattle.answer_text.specs.Line.{texts, lineWith, lineText}
+use Rattle.table_text.specs.Texts.{texts}
+use Rattle.answer_text.specs.Line.{lineWith, lineText}
 
 -- `A called LENGTH | A empty | A nostrand | A rejected REASON | A refused NUMBER WITH`
 unfoldable pub endingText : FamilyEnding → List ℕ

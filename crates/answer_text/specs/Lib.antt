@@ -1,3 +1,4 @@
 pub mod FamilyText
 pub mod Line
+pub mod SampleText
 pub mod SelectionText

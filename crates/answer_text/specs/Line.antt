@@ -1,14 +1,10 @@
 -- The text form: 'Every line ends in a line feed, fields are separated by single spaces, numbers are decimals without leading zeros'.
 use mathlib.Core.List.{List, [], _∷_, _++_}
-use Prim.Native.Nat.{ℕ, zero, suc}
+use Prim.Native.Nat.{ℕ}
 use lib.ListN.{length, getD}
 use Rattle.table_text.specs.Decimal.{decimal}
 use Rattle.table_text.specs.Text.{space, lineFeed}
-
--- the text at place 0, at place 1, .. at place n - 1
-unfoldable pub texts : (ℕ → List ℕ) → ℕ → List ℕ
-texts at zero = []
-texts at (suc n) = texts at n ++ at n
+use Rattle.table_text.specs.Texts.{texts}
 
 -- each number after a single space
 unfoldable pub fieldsText : List ℕ → List ℕ

@@ -2,4 +2,5 @@
 pub mod columns;
 pub mod family_answer;
 pub mod line;
+pub mod sample_line;
 pub mod selection_text;

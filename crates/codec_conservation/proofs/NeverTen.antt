@@ -33,12 +33,13 @@ use Rattle.codec_family.specs.FamilyCalled.{unlessRefused, endingWith}
 use Rattle.codec_family.specs.Refusals.{refusal, ofCall, ofRecords, badColumns, badBases, ofStrands, tooNarrow}
 use Rattle.codec_family.specs.declared.answer.FamilyEnding.{FamilyEnding}
 use Rattle.codec_family.specs.declared.ending.Ending.{Ending}
+use Rattle.codec_family.proofs.Answering.{stands-answered}
 use Rattle.codec_family.proofs.Counting.{Few, counted-few}
 use Rattle.caller.proofs.Refusals.{neither-refuses}
 use Rattle.codec_family.proofs.Refusing.{cause-fails, records-stand, call-stands}
 use Rattle.codec_family.proofs.Settled.{Stands, ending-unrefused}
 use Rattle.codec_conservation.specs.Chain.{Made, Handed, ChainFrom, Chain, Each}
-use Rattle.codec_conservation.proofs.Taking.{stands-answered, left-alone, unrefused, added, taken, taken-fated}
+use Rattle.codec_conservation.proofs.Taking.{left-alone, unrefused, added, taken, taken-fated}
 
 -- so the counts stay in proportion to the families, which end at 2^28
 pub record Bounded (l : Ledger) : Type 0 where
@@ -209,7 +210,7 @@ abbrev pub AnsweredTen : FamilyEnding → Type 0
 AnsweredTen e = (e .kind ≡ REFUSED) × (e .number ≡ 10)
 
 -- an answer that is a refusal is the table's
-answered-ten : (r : Refusal) (e : Ending) → NotTen r → (isRefusal r ≡ false → Stands e) → AnsweredTen (reported (unlessRefused r e)) → ⊥
+pub answered-ten : (r : Refusal) (e : Ending) → NotTen r → (isRefusal r ≡ false → Stands e) → AnsweredTen (reported (unlessRefused r e)) → ⊥
 answered-ten refusals.NoRefusal e p stands ten = false≢true (sym (stands-answered e (stands refl)) ∙ rw (ten .0))
 answered-ten (refusals.Refused number given) e p stands ten = p (ten .1)
 

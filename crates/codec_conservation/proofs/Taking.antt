@@ -1,10 +1,9 @@
 -- What the contract says of one call: it is refused and leaves the ledger, or its ending is that of the steps and the ledger gains what it counts.
 use mathlib.Core.Bool.{true, false}
-use mathlib.Core.Path.{_≡_, refl, sym, _∙_, ap}
+use mathlib.Core.Path.{_≡_, sym, _∙_, ap}
 use Rattle.lists.specs.Written.{written}
 use Rattle.caller.specs.Refusals.{isRefusal}
 use Rattle.caller.specs.declared.refusal.Refusal.{Refusal}
-use Rattle.caller.specs.declared.refusal.Refusal.the-variants as refusals
 use Rattle.codec_rejects.specs.Handover.{markWords}
 use Rattle.codec_rejects.proofs.Marking.{marked-at, marked-ones}
 use Rattle.codec_stats.specs.Ledger.{plus}
@@ -12,15 +11,14 @@ use Rattle.codec_stats.specs.declared.ledger.Ledger.{Ledger}
 use Rattle.codec_family.specs.Answer.{reported, saysRefused}
 use Rattle.codec_family.specs.Counted.{counted, afterCall}
 use Rattle.codec_family.specs.Ending.{ending}
-use Rattle.codec_family.specs.FamilyCalled.{unlessRefused, endingWith, marksAfter, Results}
+use Rattle.codec_family.specs.FamilyCalled.{endingWith, marksAfter, Results}
 use Rattle.codec_family.specs.Fates.{fates, Fated}
-use Rattle.codec_family.specs.Refusals.{refusal, ofCall, ofRecords}
-use Rattle.codec_family.specs.declared.ending.Ending.{Ending}
-use Rattle.codec_family.specs.declared.ending.Ending.the-variants as endings
+use Rattle.codec_family.specs.Refusals.{refusal, ofRecords}
 use Rattle.caller.proofs.Refusals.{no-refusal}
+use Rattle.codec_family.proofs.Answering.{refused-as}
 use Rattle.codec_family.proofs.Refusing.{records-stand, call-stands}
 use Rattle.codec_family.proofs.Selected.{few-records}
-use Rattle.codec_family.proofs.Settled.{Stands, ending-unrefused, fated}
+use Rattle.codec_family.proofs.Settled.{ending-unrefused, fated}
 use Rattle.codec_conservation.specs.Chain.{Made, Handed}
 use Rattle.codec_conservation.specs.Conserved.{Marked}
 
@@ -29,20 +27,6 @@ pub record Taken (m : Made) : Type 0 where
   pub records-stand : isRefusal (ofRecords (m .call)) ≡ false
   pub ended : m .answer .ending ≡ reported (ending (m .call))
   pub marked-words : m .after .marks ≡ written (markWords (fates (m .call))) (m .before .marks)
-
--- an ending of the steps is not answered as a refusal
-pub stands-answered : (e : Ending) → Stands e → saysRefused (reported e) ≡ false
-stands-answered (endings.Called length) stands = refl
-stands-answered endings.Empty stands = refl
-stands-answered endings.NoStrand stands = refl
-stands-answered (endings.Rejected reason) stands = refl
-stands-answered (endings.Disagreeing limit) stands = refl
-stands-answered (endings.Refused number given) stands = absurd stands
-
--- the answer says whether the call is refused
-refused-as : (r : Refusal) (e : Ending) → (isRefusal r ≡ false → Stands e) → saysRefused (reported (unlessRefused r e)) ≡ isRefusal r
-refused-as refusals.NoRefusal e stands = stands-answered e (stands refl)
-refused-as (refusals.Refused number given) e stands = refl
 
 -- the results of a call, by a refusal that looks at its records
 module _ (m : Made) (r : Refusal) (results : Results (m .call) r (m .before) (m .answer) (m .after)) (looks : isRefusal r ≡ false → isRefusal (ofRecords (m .call)) ≡ false) where

@@ -3,4 +3,5 @@ pub mod Bytes
 pub mod Partner
 pub mod Rates
 pub mod Select
+pub mod Sheet
 pub mod Words

@@ -1,6 +1,6 @@
 // The family call, for Rust and C hosts.
-use codec_caller::family::consensus_reads_raw;
 use codec_family::answer::FamilyAnswer;
+use codec_samples::family::consensus_reads_sampled;
 use codec_select::alone::room;
 use codec_select::options::Options;
 use codec_select::records::Record;
@@ -9,9 +9,13 @@ use codec_stats::ledger::Ledger;
 ghost use Rattle.codec_duplex.specs.Columns.{strand};
 ghost use Rattle.codec_duplex.specs.Duplex.{duplex};
 ghost use Rattle.codec_family.specs.Call.{lentOf, callOf};
-ghost use Rattle.codec_family.specs.FamilyCalled.{FamilyCalled};
+ghost use Rattle.sample_ledgers.specs.Samples.{samplesOf};
+ghost use Rattle.codec_samples.specs.Books.{booksOf};
+ghost use Rattle.codec_samples.specs.SampledCall.{sampledCallOf};
+ghost use Rattle.codec_samples.specs.SampledFamily.{SampledFamilyCalled};
 
-// Steps 1 to 9 of a family: the duplex into d, both padded strands into s1 and s2, the handover list into listed and reasons, the marks.
+// Steps 1 to 9 of a family: the duplex into d, both padded strands into s1 and s2, the handover list into listed and reasons, the marks;
+// counted for the run and for the sample that it names.
 #[no_mangle]
 pub extern "C" fn codec_ffi_family(
     records: &[Record],
@@ -28,6 +32,8 @@ pub extern "C" fn codec_ffi_family(
     r2_depths: &[u16],
     r2_errors: &[u16],
     ledger: Ledger,
+    sample: u32,
+    samples: &mut [u64; 1920],
     d_bases: &mut [u8],
     d_quals: &mut [u8],
     d_depths: &mut [u16],
@@ -45,19 +51,20 @@ pub extern "C" fn codec_ffi_family(
     marks: &mut [u64],
 ) -> FamilyAnswer
     ensures { λ r. ⌜
-        FamilyCalled
-        (callOf (now (records .entry)) (now (ops .entry)) options «has_r1» (strand (now («r1_bases» .entry)) (now («r1_quals» .entry)) (now («r1_depths» .entry)) (now («r1_errors» .entry))) «has_r2» (strand (now («r2_bases» .entry)) (now («r2_quals» .entry)) (now («r2_depths» .entry)) (now («r2_errors» .entry)))
-        (lentOf (duplex (now («d_bases» .entry)) (now («d_quals» .entry)) (now («d_depths» .entry)) (now («d_errors» .entry))) (strand (now («s1_bases» .entry)) (now («s1_quals» .entry)) (now («s1_depths» .entry)) (now («s1_errors» .entry))) (strand (now («s2_bases» .entry)) (now («s2_quals» .entry)) (now («s2_depths» .entry)) (now («s2_errors» .entry))) (now (listed .entry)) (now (reasons .entry)) (now (marks .entry))))
-        ledger
+        SampledFamilyCalled
+        (sampledCallOf (callOf (now (records .entry)) (now (ops .entry)) options «has_r1» (strand (now («r1_bases» .entry)) (now («r1_quals» .entry)) (now («r1_depths» .entry)) (now («r1_errors» .entry))) «has_r2» (strand (now («r2_bases» .entry)) (now («r2_quals» .entry)) (now («r2_depths» .entry)) (now («r2_errors» .entry)))
+        (lentOf (duplex (now («d_bases» .entry)) (now («d_quals» .entry)) (now («d_depths» .entry)) (now («d_errors» .entry))) (strand (now («s1_bases» .entry)) (now («s1_quals» .entry)) (now («s1_depths» .entry)) (now («s1_errors» .entry))) (strand (now («s2_bases» .entry)) (now («s2_quals» .entry)) (now («s2_depths» .entry)) (now («s2_errors» .entry))) (now (listed .entry)) (now (reasons .entry)) (now (marks .entry)))) «sample»)
+        (booksOf ledger (now («samples» .entry)))
         (lentOf (duplex (now («d_bases» .entry)) (now («d_quals» .entry)) (now («d_depths» .entry)) (now («d_errors» .entry))) (strand (now («s1_bases» .entry)) (now («s1_quals» .entry)) (now («s1_depths» .entry)) (now («s1_errors» .entry))) (strand (now («s2_bases» .entry)) (now («s2_quals» .entry)) (now («s2_depths» .entry)) (now («s2_errors» .entry))) (now (listed .entry)) (now (reasons .entry)) (now (marks .entry)))
         r
+        (samplesOf (now («samples» .exit)))
         (lentOf (duplex (now («d_bases» .exit)) (now («d_quals» .exit)) (now («d_depths» .exit)) (now («d_errors» .exit))) (strand (now («s1_bases» .exit)) (now («s1_quals» .exit)) (now («s1_depths» .exit)) (now («s1_errors» .exit))) (strand (now («s2_bases» .exit)) (now («s2_quals» .exit)) (now («s2_depths» .exit)) (now («s2_errors» .exit))) (now (listed .exit)) (now (reasons .exit)) (now (marks .exit)))
         ⌝ }
 {
     let len = records.len();
     let n = room(len);
     let columns = gather(records, n);
-    consensus_reads_raw(
+    consensus_reads_sampled(
         columns,
         len,
         ops,
@@ -73,6 +80,8 @@ pub extern "C" fn codec_ffi_family(
         r2_depths,
         r2_errors,
         ledger,
+        sample,
+        samples,
         d_bases,
         d_quals,
         d_depths,

@@ -1,4 +1,4 @@
-// What a Rust or C host calls: the combining step through numbers and byte slices; on a slice of records, selection alone and the family call; the ledger's rates; the turns of eight lanes; both conversions of CIGARs; the check of a partner's table.
+// What a Rust or C host calls: the combining step through numbers and byte slices; on a slice of records, selection alone and the family call; the ledger's rates; the turns of eight lanes; both conversions of CIGARs; the check of a partner's table; the sheet of the samples.
 pub mod answer;
 pub mod cigar;
 pub mod columns;
@@ -8,4 +8,5 @@ pub mod family;
 pub mod partner;
 pub mod rates;
 pub mod select;
+pub mod sheet;
 pub mod words;

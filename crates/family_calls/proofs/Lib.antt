@@ -1,2 +1,3 @@
 pub mod Ledgers
+pub mod Records
 pub mod Short

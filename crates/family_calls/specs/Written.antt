@@ -1,12 +1,16 @@
--- What a program writes of a family: the answer, or what is handed over.
-use mathlib.Core.Bool.{Bool, cond}
-use mathlib.Core.List.{List}
+-- What a program writes of a family: the answer, what is handed over, or nothing before the sheet.
+use mathlib.Core.List.{List, [], _++_}
 use Prim.Native.Nat.{ℕ}
 use Rattle.answer_text.specs.FamilyText.{familyText}
+use Rattle.answer_text.specs.SampleText.{sampleText}
 use Rattle.codec_family.specs.Call.{Lent}
 use Rattle.codec_family.specs.declared.answer.FamilyAnswer.{FamilyAnswer}
+use Rattle.family_text.specs.declared.settings.Handed.{Handed}
 use Rattle.handover_text.specs.Handover.{handoverText}
+use Rattle.family_calls.specs.declared.form.Form.{Form}
+use Rattle.family_calls.specs.declared.form.Form.the-variants.{Answers, Handover, Sheet}
 
-abbrev pub writtenText : Bool → ℕ → FamilyAnswer → Lent → List ℕ
-writtenText handingOver number answer lent =
-    cond handingOver (handoverText number answer (lent .listedRecords) (lent .listedReasons)) (familyText answer lent)
+abbrev pub writtenText : Form → ℕ → FamilyAnswer → Handed → Lent → List ℕ
+writtenText Answers number answer after lent = familyText answer lent ++ sampleText (after .named) (after .sample) (after .samples)
+writtenText Handover number answer after lent = handoverText number answer (lent .listedRecords) (lent .listedReasons)
+writtenText Sheet number answer after lent = []

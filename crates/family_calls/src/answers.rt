@@ -1,11 +1,12 @@
 // The families of a window, one after the other, and what the family call answers to each.
 use crate::calls;
-use codec_stats::ledger::Ledger;
+use crate::form::Form;
 use family_text::column;
 use family_text::family;
 use family_text::family::Ending;
 use family_text::ledgers;
 use family_text::lines::Stop;
+use family_text::settings::Handed;
 use family_windows::windows;
 use family_windows::windows::Reached;
 ghost use mathlib.Core.Path.{_≡_};
@@ -19,17 +20,17 @@ enum Step {
     Stopped(Stop),
 }
 
-// Where a family ends, the ledger after it, and the number of the family that follows.
+// Where a family ends, what it hands on, and the number of the family that follows.
 struct Stepped {
     step: Step,
-    ledger: Ledger,
+    handed: Handed,
     number: u64,
 }
 
-// How far a window was read, the ledger there, and the number of the family that follows.
+// How far a window was read, what is handed on there, and the number of the family that follows.
 pub struct Window {
     pub reached: Reached,
-    pub ledger: Ledger,
+    pub handed: Handed,
     pub number: u64,
 }
 
@@ -49,16 +50,16 @@ fn answer_next(
     text: &[u8],
     at: usize,
     answering: bool,
-    handing_over: bool,
+    form: Form,
     number: u64,
-    ledger: Ledger,
+    before: Handed,
     ops: &mut [u32],
     output: &mut [u8],
     to: usize,
 ) -> Stepped
-    requires { ⌜ (at < length (now text)) × (9000 ≤ length (now ops)) × (to ≤ length (now output)) × (112813 ≤ length (now output)) ⌝ }
+    requires { ⌜ (at < length (now text)) × (9000 ≤ length (now ops)) × (to ≤ length (now output)) × (113239 ≤ length (now output)) ⌝ }
     ensures { λ r. ⌜ StepWithin at (length (now (text .entry))) (length (now (output .exit))) (r .step) ⌝ }
-    ensures { λ r. ⌜ StepGoes (now (text .entry)) at ledger answering (r .ledger) (r .step) ⌝ }
+    ensures { λ r. ⌜ StepGoes (now (text .entry)) at before answering (r .handed) (r .step) ⌝ }
 {
     let mut r1_bases = [0u8; column::PLACES];
     let mut r1_quals = [0u8; column::PLACES];
@@ -71,7 +72,7 @@ fn answer_next(
     let read = family::next_family(
         text,
         at,
-        ledger,
+        before,
         ops,
         &mut r1_bases,
         &mut r1_quals,
@@ -83,16 +84,16 @@ fn answer_next(
         &mut r2_errors,
     );
     let ending = read.ending;
-    let handed = read.ledger;
+    let handed = read.handed;
     match ending {
         Ending::Stopped(stop) => Stepped {
             step: Step::Stopped(stop),
-            ledger,
+            handed: before,
             number,
         },
         Ending::End => Stepped {
             step: Step::Until(text.len(), to),
-            ledger: handed,
+            handed,
             number,
         },
         Ending::Family(found, after) => {
@@ -101,7 +102,7 @@ fn answer_next(
                 let r1 = read.r1;
                 let r2 = read.r2;
                 let answer = calls::answer_family(
-                    handing_over,
+                    form,
                     number,
                     found,
                     table,
@@ -120,16 +121,16 @@ fn answer_next(
                     output,
                     to,
                 );
-                let counted = answer.ledger;
+                let after_call = answer.handed;
                 Stepped {
                     step: Step::Until(after, answer.to),
-                    ledger: counted,
+                    handed: after_call,
                     number: number_after(number),
                 }
             } else {
                 Stepped {
                     step: Step::Until(after, to),
-                    ledger: handed,
+                    handed,
                     number,
                 }
             }
@@ -142,18 +143,18 @@ pub(crate) fn answer_window(
     text: &[u8],
     ends: bool,
     answering: bool,
-    handing_over: bool,
+    form: Form,
     number: u64,
-    ledger: Ledger,
+    before: Handed,
     ops: &mut [u32],
     output: &mut [u8],
     filled: usize,
 ) -> Window
-    requires { ⌜ (0 < length (now text)) × (9000 ≤ length (now ops)) × (filled ≤ length (now output)) × (112813 ≤ length (now output)) ⌝ }
+    requires { ⌜ (0 < length (now text)) × (9000 ≤ length (now ops)) × (filled ≤ length (now output)) × (113239 ≤ length (now output)) ⌝ }
     ensures { λ r. ⌜ ReachedWithin (length (now (text .entry))) (length (now (output .exit))) (r .reached) ⌝ }
-    ensures { λ r. ⌜ WindowGoes (now (text .entry)) ledger answering (r .ledger) (r .reached) ⌝ }
+    ensures { λ r. ⌜ WindowGoes (now (text .entry)) before answering (r .handed) (r .reached) ⌝ }
 {
-    let mut held = ledger;
+    let mut held = before;
     let mut next_number = number;
     let mut at = 0;
     let mut to = filled;
@@ -162,7 +163,7 @@ pub(crate) fn answer_window(
             text,
             at,
             answering,
-            handing_over,
+            form,
             next_number,
             held,
             ops,
@@ -172,8 +173,8 @@ pub(crate) fn answer_window(
         let step = stepped.step;
         match step {
             Step::Until(after, more) => {
-                let counted = stepped.ledger;
-                held = counted;
+                let handed = stepped.handed;
+                held = handed;
                 next_number = stepped.number;
                 at = after;
                 to = more;
@@ -181,10 +182,10 @@ pub(crate) fn answer_window(
             Step::Stopped(stop) => {
                 let begun = ledgers::read_ledgers(text, at, held);
                 let next = begun.next;
-                let handed = begun.ledger;
+                let handed = begun.handed;
                 return Window {
                     reached: windows::stop_window(next, stop, ends, to),
-                    ledger: handed,
+                    handed,
                     number: next_number,
                 };
             }
@@ -192,7 +193,7 @@ pub(crate) fn answer_window(
     }
     Window {
         reached: Reached::Until(at, to),
-        ledger: held,
+        handed: held,
         number: next_number,
     }
 }

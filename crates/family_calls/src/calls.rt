@@ -1,28 +1,25 @@
 // One family: the family call, lent as much as its header says, and the writing of its answer.
-use answer_text::family_answer;
-use codec_caller::family::consensus_reads_raw;
+use crate::form::Form;
+use crate::writing;
 use codec_family::answer::FamilyAnswer;
 use codec_family::room::Widths;
+use codec_samples::family::consensus_reads_sampled;
 use codec_select::columns::columns_of;
 use codec_select::records::Record;
 use codec_stats::ledger::Ledger;
 use family_text::header::Header;
+use family_text::settings::Handed;
 use family_windows::output;
-use handover_text::handover;
 ghost use mathlib.Core.Path.{_≡_};
 ghost use Prim.Native.Nat.{_+_, _≤_};
 ghost use lib.ListN.{length, take};
 ghost use Rattle.codec_duplex.specs.Columns.{strand};
-ghost use Rattle.codec_duplex.specs.Duplex.{duplex};
-ghost use Rattle.codec_family.specs.Call.{lentOf};
-ghost use Rattle.codec_family.specs.Counted.{afterCall};
-ghost use Rattle.table_text.specs.OutputTable.{Stored};
-ghost use Rattle.answer_text.specs.FamilyText.{Answered};
+ghost use Rattle.codec_samples.specs.Books.{booksOf};
+ghost use Rattle.codec_samples.specs.SampledCall.{sampledCallOf};
 ghost use Rattle.family_text.specs.Family.{Announced, family as familyOf};
 ghost use Rattle.family_text.specs.Strands.{held, Held, Roomy};
-ghost use Rattle.family_calls.specs.Ledgers.{callFor};
+ghost use Rattle.family_calls.specs.Ledgers.{callFor, Kept, HandedOn};
 ghost use Rattle.family_calls.specs.Places.{Short};
-ghost use Rattle.family_calls.specs.Written.{writtenText};
 
 // The longest columns, list and marks that a header announces.
 const COLUMNS: usize = 2100;
@@ -31,10 +28,10 @@ const LIST: usize = 600;
 
 const MARKS: usize = 16;
 
-// How much of the output is filled, and the ledger after the call.
+// How much of the output is filled, and what the family hands on.
 pub struct Answer {
     pub to: usize,
-    pub ledger: Ledger,
+    pub handed: Handed,
 }
 
 // The family call, lent as much as the header says.
@@ -42,6 +39,8 @@ fn call_family(
     found: Header,
     table: [Record; 512],
     ledger: Ledger,
+    sample: u32,
+    samples: &mut [u64; 1920],
     r1: Widths,
     r2: Widths,
     ops: &[u32],
@@ -74,7 +73,7 @@ fn call_family(
     requires { ⌜ Held r2 × Roomy (strand (now «r2_bases») (now «r2_quals») (now «r2_depths») (now «r2_errors»)) ⌝ }
     requires { ⌜ (2100 ≤ length (now «d_bases»)) × (2100 ≤ length (now «d_quals»)) × (2100 ≤ length (now «d_depths»)) × (2100 ≤ length (now «d_errors»)) × (2100 ≤ length (now «s1_bases»)) × (2100 ≤ length (now «s1_quals»)) × (2100 ≤ length (now «s1_depths»)) × (2100 ≤ length (now «s1_errors»)) × (2100 ≤ length (now «s2_bases»)) × (2100 ≤ length (now «s2_quals»)) × (2100 ≤ length (now «s2_depths»)) × (2100 ≤ length (now «s2_errors»)) ⌝ }
     requires { ⌜ (600 ≤ length (now listed)) × (600 ≤ length (now reasons)) × (16 ≤ length (now marks)) ⌝ }
-    ensures { λ r. ⌜ r .ledger ≡ afterCall (callFor (familyOf found table (take (found .words) (now (ops .entry))) (held r1 (strand (now («r1_bases» .entry)) (now («r1_quals» .entry)) (now («r1_depths» .entry)) (now («r1_errors» .entry)))) (held r2 (strand (now («r2_bases» .entry)) (now («r2_quals» .entry)) (now («r2_depths» .entry)) (now («r2_errors» .entry)))))) ledger ⌝ }
+    ensures { λ r. ⌜ Kept (sampledCallOf (callFor (familyOf found table (take (found .words) (now (ops .entry))) (held r1 (strand (now («r1_bases» .entry)) (now («r1_quals» .entry)) (now («r1_depths» .entry)) (now («r1_errors» .entry)))) (held r2 (strand (now («r2_bases» .entry)) (now («r2_quals» .entry)) (now («r2_depths» .entry)) (now («r2_errors» .entry)))))) «sample») (booksOf ledger (now («samples» .entry))) (r .ledger) (now («samples» .exit)) ⌝ }
     ensures { λ r. ⌜ Short r ⌝ }
 {
     let words = found.words;
@@ -89,7 +88,7 @@ fn call_family(
     let r2_quals_end = r2.quals;
     let r2_depths_end = r2.depths;
     let r2_errors_end = r2.errors;
-    consensus_reads_raw(
+    consensus_reads_sampled(
         columns_of(table, found.records),
         found.records,
         &ops[..words],
@@ -105,6 +104,8 @@ fn call_family(
         &r2_depths[..r2_depths_end],
         &r2_errors[..r2_errors_end],
         ledger,
+        sample,
+        samples,
         &mut d_bases[..columns],
         &mut d_quals[..columns],
         &mut d_depths[..columns],
@@ -123,70 +124,13 @@ fn call_family(
     )
 }
 
-// Writes the answer for programs, or for people what is handed over, from place `to` on, and answers the place after it.
-fn write_answer(
-    handing_over: bool,
-    number: u64,
-    answer: FamilyAnswer,
-    listed: &[u32],
-    reasons: &[u8],
-    marks: &[u64],
-    d_bases: &[u8],
-    d_quals: &[u8],
-    d_depths: &[u16],
-    d_errors: &[u16],
-    s1_bases: &[u8],
-    s1_quals: &[u8],
-    s1_depths: &[u16],
-    s1_errors: &[u16],
-    s2_bases: &[u8],
-    s2_quals: &[u8],
-    s2_depths: &[u16],
-    s2_errors: &[u16],
-    output: &mut [u8],
-    to: usize,
-) -> usize
-    requires { ⌜ Answered answer
-        (lentOf (duplex (now «d_bases») (now «d_quals») (now «d_depths») (now «d_errors»)) (strand (now «s1_bases») (now «s1_quals») (now «s1_depths») (now «s1_errors»)) (strand (now «s2_bases») (now «s2_quals») (now «s2_depths») (now «s2_errors»)) (now listed) (now reasons) (now marks)) ⌝ }
-    requires { ⌜ to + 112813 ≤ length (now output) ⌝ }
-    ensures { λ r. ⌜ Stored
-        (writtenText «handing_over» number answer
-        (lentOf (duplex (now («d_bases» .entry)) (now («d_quals» .entry)) (now («d_depths» .entry)) (now («d_errors» .entry))) (strand (now («s1_bases» .entry)) (now («s1_quals» .entry)) (now («s1_depths» .entry)) (now («s1_errors» .entry))) (strand (now («s2_bases» .entry)) (now («s2_quals» .entry)) (now («s2_depths» .entry)) (now («s2_errors» .entry))) (now (listed .entry)) (now (reasons .entry)) (now (marks .entry))))
-        (now (output .entry)) to (now (output .exit)) r ⌝ }
-    ensures { λ r. ⌜ r ≤ to + 112813 ⌝ }
-{
-    if handing_over {
-        return handover::write_handover(number, answer, listed, reasons, output, to);
-    }
-    family_answer::write_family_answer(
-        answer,
-        listed,
-        reasons,
-        marks,
-        d_bases,
-        d_quals,
-        d_depths,
-        d_errors,
-        s1_bases,
-        s1_quals,
-        s1_depths,
-        s1_errors,
-        s2_bases,
-        s2_quals,
-        s2_depths,
-        s2_errors,
-        output,
-        to,
-    )
-}
-
 // The answer to a family, behind what the output holds; all that is lent is zero before.
 pub(crate) fn answer_family(
-    handing_over: bool,
+    form: Form,
     number: u64,
     found: Header,
     table: [Record; 512],
-    ledger: Ledger,
+    handed: Handed,
     r1: Widths,
     r2: Widths,
     ops: &[u32],
@@ -204,10 +148,13 @@ pub(crate) fn answer_family(
     requires { ⌜ Announced found × (9000 ≤ length (now ops)) ⌝ }
     requires { ⌜ Held r1 × Roomy (strand (now «r1_bases») (now «r1_quals») (now «r1_depths») (now «r1_errors»)) ⌝ }
     requires { ⌜ Held r2 × Roomy (strand (now «r2_bases») (now «r2_quals») (now «r2_depths») (now «r2_errors»)) ⌝ }
-    requires { ⌜ (to ≤ length (now output)) × (112813 ≤ length (now output)) ⌝ }
+    requires { ⌜ (to ≤ length (now output)) × (113239 ≤ length (now output)) ⌝ }
     ensures { λ r. ⌜ r .to ≤ length (now (output .exit)) ⌝ }
-    ensures { λ r. ⌜ r .ledger ≡ afterCall (callFor (familyOf found table (take (found .words) (now (ops .entry))) (held r1 (strand (now («r1_bases» .entry)) (now («r1_quals» .entry)) (now («r1_depths» .entry)) (now («r1_errors» .entry)))) (held r2 (strand (now («r2_bases» .entry)) (now («r2_quals» .entry)) (now («r2_depths» .entry)) (now («r2_errors» .entry)))))) ledger ⌝ }
+    ensures { λ r. ⌜ HandedOn (familyOf found table (take (found .words) (now (ops .entry))) (held r1 (strand (now («r1_bases» .entry)) (now («r1_quals» .entry)) (now («r1_depths» .entry)) (now («r1_errors» .entry)))) (held r2 (strand (now («r2_bases» .entry)) (now («r2_quals» .entry)) (now («r2_depths» .entry)) (now («r2_errors» .entry))))) handed (r .handed) ⌝ }
 {
+    let ledger = handed.ledger;
+    let sample = handed.sample;
+    let mut samples = handed.samples;
     let mut d_bases = [0u8; COLUMNS];
     let mut d_quals = [0u8; COLUMNS];
     let mut d_depths = [0u16; COLUMNS];
@@ -227,6 +174,8 @@ pub(crate) fn answer_family(
         found,
         table,
         ledger,
+        sample,
+        &mut samples,
         r1,
         r2,
         ops,
@@ -254,11 +203,19 @@ pub(crate) fn answer_family(
         &mut reasons,
         &mut marks,
     );
-    let at = output::make_room(output, to, family_answer::ANSWER_BYTES);
-    let end = write_answer(
-        handing_over,
+    let run = answer.ledger;
+    let after = Handed {
+        ledger: run,
+        samples,
+        sample,
+        named: handed.named,
+    };
+    let at = output::make_room(output, to, writing::ANSWER_BYTES);
+    let end = writing::write_answer(
+        form,
         number,
         answer,
+        after,
         &listed,
         &reasons,
         &marks,
@@ -277,9 +234,8 @@ pub(crate) fn answer_family(
         output,
         at,
     );
-    let after = answer.ledger;
     Answer {
         to: end,
-        ledger: after,
+        handed: after,
     }
 }

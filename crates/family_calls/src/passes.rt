@@ -1,44 +1,72 @@
 // A pass over a file of any size: a window of it at a time, which begins where a family begins.
 use crate::answers;
+use crate::form::Form;
 use codec_stats::ledger::Ledger;
 use family_text::family;
 use family_text::lines;
+use family_text::settings::Handed;
 use family_windows::output;
 use family_windows::output::Verdict;
 use family_windows::windows;
 use family_windows::windows::Reached;
 use handover_text::sheet;
+use sheet_text::sheet::Sheet;
+use sheet_text::sheet::write_sheet;
 ghost use Prim.Native.Nat.{_^_, _≤_, _<_};
 ghost use lib.ListN.{length};
 
 // Room for the longest answer, and for many of the usual ones.
 const OUTPUT_BYTES: usize = 262144;
 
-// Writes out what the output holds; behind the list that is handed over stands the sheet of the ledger.
-fn write_end(handing_over: bool, ledger: Ledger, output: &mut [u8], to: usize)
-    requires { ⌜ (to ≤ length (now output)) × (112813 ≤ length (now output)) ⌝ }
+// The samples' sheet goes through an output that holds nothing any more.
+fn write_samples(samples: &[u64; 1920], output: &mut [u8])
+    requires { ⌜ 113239 ≤ length (now output) ⌝ }
 {
-    if handing_over {
-        let at = output::make_room(output, to, sheet::SHEET_BYTES);
-        let end = sheet::write_sheet(ledger, output, at);
-        output::write_out(&output[..end]);
-        return;
+    match write_sheet(samples, output) {
+        Sheet::Written(end) => output::write_out(&output[..end]),
+        Sheet::Refused(number) => output::write_refusal(number as u64, 0),
     }
-    output::write_out(&output[..to]);
+}
+
+// Writes out what the output holds, and behind it the sheet of the run's ledger.
+fn write_run(ledger: Ledger, output: &mut [u8], to: usize)
+    requires { ⌜ (to ≤ length (now output)) × (113239 ≤ length (now output)) ⌝ }
+{
+    let at = output::make_room(output, to, sheet::SHEET_BYTES);
+    let end = sheet::write_sheet(ledger, output, at);
+    output::write_out(&output[..end]);
+}
+
+// Behind the list that is handed over stand the sheet of the run's ledger and, where samples are named, theirs.
+fn write_end(form: Form, handed: Handed, output: &mut [u8], to: usize)
+    requires { ⌜ (to ≤ length (now output)) × (113239 ≤ length (now output)) ⌝ }
+{
+    let ledger = handed.ledger;
+    let samples = handed.samples;
+    match form {
+        Form::Answers => output::write_out(&output[..to]),
+        Form::Sheet => write_samples(&samples, output),
+        Form::Handover => {
+            write_run(ledger, output, to);
+            if handed.named {
+                write_samples(&samples, output);
+            }
+        }
+    }
 }
 
 fn read_windows(
     file: i32,
     size: usize,
     answering: bool,
-    handing_over: bool,
+    form: Form,
     window: &mut [u8],
     ops: &mut [u32],
     output: &mut [u8],
 ) -> Verdict
-    requires { ⌜ (size < 2 ^ 63) × (9000 ≤ length (now ops)) × (112813 ≤ length (now output)) ⌝ }
+    requires { ⌜ (size < 2 ^ 63) × (9000 ≤ length (now ops)) × (113239 ≤ length (now output)) ⌝ }
 {
-    let mut ledger = windows::fresh_ledger();
+    let mut handed = windows::fresh_handed();
     let mut number = 1;
     let mut offset = 0;
     let mut lines_passed = 0;
@@ -54,9 +82,9 @@ fn read_windows(
             text,
             ends,
             answering,
-            handing_over,
+            form,
             number,
-            ledger,
+            handed,
             ops,
             output,
             to,
@@ -68,8 +96,8 @@ fn read_windows(
             }
             Reached::Until(after, filled) => {
                 lines_passed += lines::lines_before(text, after);
-                let held = read.ledger;
-                ledger = held;
+                let held = read.handed;
+                handed = held;
                 number = read.number;
                 offset += after;
                 to = filled;
@@ -77,13 +105,13 @@ fn read_windows(
         }
     }
     if answering {
-        write_end(handing_over, ledger, output, to);
+        write_end(form, handed, output, to);
     }
     Verdict::Read
 }
 
 // Reads the families of a file that has so many bytes, and answers each where it is asked to.
-pub(crate) fn read_families(file: i32, size: usize, answering: bool, handing_over: bool) -> Verdict
+pub(crate) fn read_families(file: i32, size: usize, answering: bool, form: Form) -> Verdict
     requires { ⌜ size < 2 ^ 63 ⌝ }
 {
     let mut window = [0u8; windows::WINDOW_BYTES];
@@ -93,7 +121,7 @@ pub(crate) fn read_families(file: i32, size: usize, answering: bool, handing_ove
         file,
         size,
         answering,
-        handing_over,
+        form,
         &mut window,
         &mut ops,
         &mut output,

@@ -11,18 +11,20 @@ use lib.ListN.{drop}
 use lib.Seq.{drop-drop}
 use Rattle.codec_duplex.specs.Columns.{Strand}
 use Rattle.codec_select.specs.declared.records.Record.{Record}
-use Rattle.codec_stats.specs.Ledger.{Counts}
 use Rattle.table_text.specs.Parts.{Parts, last, ended, inFront, parts}
 use Rattle.family_text.specs.Family.{headerLine, familyFrom, familyOf, Call, call, noMore, familyOrEnd, callOf, FamilySteps}
-use Rattle.family_text.specs.Header.{ledgerFrom, ledgerOf}
-use Rattle.family_text.specs.Ledgers.{isLedger, ledgersFrom}
+use Rattle.family_text.specs.Ledgers.{byTold, ledgersFrom}
 use Rattle.family_text.specs.Parsed.{Parsed, parsed, unparsed}
 use Rattle.family_text.specs.Reading.{Reading, got, wrong, cut, andNext, mapped, applied, gotAfter, lineThen, oneLine, linesFrom}
 use Rattle.family_text.specs.Records.{recordLine, recordsFrom}
+use Rattle.family_text.specs.Settings.{settingOf}
 use Rattle.family_text.specs.Strands.{columnFrom, strandFrom, strandIf}
 use Rattle.family_text.specs.declared.family.Ending.the-variants as endings
 use Rattle.family_text.specs.declared.family.FamilyRead.{FamilyRead}
 use Rattle.family_text.specs.declared.header.Header.{Header}
+use Rattle.family_text.specs.declared.settings.Handed.{Handed}
+use Rattle.family_text.specs.declared.settings.Told.the-variants.{Set, Malformed, Other}
+use Rattle.family_text.specs.declared.settings.Told.{Told}
 
 -- the lines that are ended
 lineCount : Parts → ℕ
@@ -100,24 +102,24 @@ module _ (n : ℕ) where
 
   -- a call takes a line, where there is one
   abbrev Took : Call → Parts → Type 0
-  Took (call ledger family) rest = lineCount rest < n
-  Took (noMore ledger) rest = Unit {0}
+  Took (call handed family) rest = lineCount rest < n
+  Took (noMore handed) rest = Unit {0}
 
-  ledgers-left : (ledger : Counts) (p : Parts) → lineCount p ≤ n → Gives (λ _ rest. lineCount rest ≤ n) (ledgersFrom ledger p)
+  ledgers-left : (before : Handed) (p : Parts) → lineCount p ≤ n → Gives (λ _ rest. lineCount rest ≤ n) (ledgersFrom before p)
   unfolding ledgersFrom lineCount
-  ledgers-left ledger (last text) h = value h
-  ledgers-left ledger (ended text more) h = go (isLedger text) (ledgerOf text .«well_formed») (ledgersFrom (ledgerFrom (ledgerOf text .values)) more) (ledgers-left _ more (omega arith))
+  ledgers-left before (last text) h = value h
+  ledgers-left before (ended text more) h = go (settingOf before text .told) (ledgersFrom (settingOf before text .handed) more) (ledgers-left _ more (omega arith))
     where
-      go : (figures good : Bool) (r : Reading Counts) → Gives (λ _ rest. lineCount rest ≤ n) r → Gives (λ _ rest. lineCount rest ≤ n) (cond figures (cond good r (wrong (ended text more))) (got ledger (ended text more)))
-      go true true r l = l
-      go true false r l = wrongly
-      go false good r l = value h
+      go : (t : Told) (r : Reading Handed) → Gives (λ _ rest. lineCount rest ≤ n) r → Gives (λ _ rest. lineCount rest ≤ n) (byTold t r (wrong (ended text more)) (got before (ended text more)))
+      go Set r l = l
+      go Malformed r l = wrongly
+      go Other r l = value h
 
-  call-took : (ledger : Counts) (p : Parts) → lineCount p ≤ n → Gives Took (callOf ledger p)
+  call-took : (before : Handed) (p : Parts) → lineCount p ≤ n → Gives Took (callOf before p)
   unfolding callOf familyOrEnd
-  call-took ledger p h = gives-next (λ _ rest. lineCount rest ≤ n) Took _ _ (ledgers-left ledger p h) λ handed rest l. go handed rest l
+  call-took before p h = gives-next (λ _ rest. lineCount rest ≤ n) Took _ _ (ledgers-left before p h) λ handed rest l. go handed rest l
     where
-      go : (handed : Counts) (rest : Parts) → lineCount rest ≤ n → Gives Took (familyOrEnd handed rest)
+      go : (handed : Handed) (rest : Parts) → lineCount rest ≤ n → Gives Took (familyOrEnd handed rest)
       go handed (last []) l = value tt
       go handed (last (b ∷ bs)) l = shortly
       go handed (ended line more) l = gives-mapped (Left n) Took (call handed) _ (family-left (ended line more) l) (λ family end k. k)
@@ -145,9 +147,9 @@ later text at after h = go (leb after at) refl
     go false known = omega (arith, leb-false)
 
 -- the next family begins after this one
-pub family-advances : (text ops : List ℕ) (s1 s2 : Strand) (ledger : Counts) (at after : ℕ) (header : Header) (r : FamilyRead) → r .ending ≡ endings.Family header after
-    → FamilySteps text ops s1 s2 r (callOf ledger (linesFrom text at))
+pub family-advances : (text ops : List ℕ) (s1 s2 : Strand) (before : Handed) (at after : ℕ) (header : Header) (r : FamilyRead) → r .ending ≡ endings.Family header after
+    → FamilySteps text ops s1 s2 r (callOf before (linesFrom text at))
     → at < after
-family-advances text ops s1 s2 ledger at after header r is steps =
+family-advances text ops s1 s2 before at after header r is steps =
     let same = rw is at (steps .same) in
-    later text at after (value-of (rw (← same) at (call-took (lineCount (linesFrom text at)) ledger (linesFrom text at) (omega arith))))
+    later text at after (value-of (rw (← same) at (call-took (lineCount (linesFrom text at)) before (linesFrom text at) (omega arith))))

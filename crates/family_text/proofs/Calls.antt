@@ -9,7 +9,6 @@ use lib.ListN.{length, getD, take, drop, drop-of-length-le}
 use lib.Seq.{drop-cons}
 use Rattle.bytes.specs.Bytes.{indexOf}
 use Rattle.codec_duplex.specs.Columns.{Strand}
-use Rattle.codec_stats.specs.Ledger.{Counts}
 use Rattle.table_text.specs.Parts.{Parts, last, ended, inFront, parts}
 use Rattle.family_text.specs.Family.{headerParsed, headerLine, family, familyFrom, familyOf, call, familyOrEnd, callOf, endedBy, readIn, Announced, HeaderSteps, FamilySteps}
 use Rattle.family_text.specs.Header.{headerKinds, headerLimits, headerFrom, headerOf}
@@ -27,6 +26,7 @@ use Rattle.family_text.specs.declared.lines.Next.the-variants.{Until, St
 use Rattle.family_text.specs.declared.lines.Next.{Next}
 use Rattle.family_text.specs.declared.lines.Stop.the-variants as stops
 use Rattle.family_text.specs.declared.lines.Stop.{Stop}
+use Rattle.family_text.specs.declared.settings.Handed.{Handed}
 use Rattle.family_text.proofs.Fits.{fit-line}
 use Rattle.family_text.proofs.Readings.{line-ended, next-stopped}
 
@@ -57,10 +57,10 @@ mapped-stopped text f (stops.Cut at) = refl
 
 module _ (text ops : List ℕ) (s1 s2 : Strand) (p : Parts) (r : FamilyRead) (h1 : Held (r .r1)) (h2 : Held (r .r2)) where
   -- where the header stops
-  pub header-stop : (ledger : Counts) (stop : Stop) → HeaderSteps text (oneLine headerLine p) (headers.Stopped stop) → r .ending ≡ endings.Stopped stop → FamilySteps text ops s1 s2 r (mapped (call ledger) (familyOf p))
+  pub header-stop : (handed : Handed) (stop : Stop) → HeaderSteps text (oneLine headerLine p) (headers.Stopped stop) → r .ending ≡ endings.Stopped stop → FamilySteps text ops s1 s2 r (mapped (call handed) (familyOf p))
   unfolding familyOf
-  header-stop ledger stop step e = record {
-    same = rw (e, ← step .0, next-stopped text stop (λ header rest. familyFrom header rest)) (sym (mapped-stopped text (call ledger) stop));
+  header-stop handed stop step e = record {
+    same = rw (e, ← step .0, next-stopped text stop (λ header rest. familyFrom header rest)) (sym (mapped-stopped text (call handed) stop));
     within = rw e (step .1);
     r1-held = h1;
     r2-held = h2;
@@ -70,7 +70,7 @@ module _ (text ops : List ℕ) (s1 s2 : Strand) (p : Parts) (r : FamilyRead) (h1
   pub header-found : (header : Header) (at : ℕ) (next : Next) → HeaderSteps text (oneLine headerLine p) (headers.Found header at)
       → Steps text (readIn ops s1 s2 r header) next (familyFrom header (linesFrom text at))
       → r .ending ≡ endedBy header next
-      → FamilySteps text ops s1 s2 r (mapped (call (r .ledger)) (familyOf p))
+      → FamilySteps text ops s1 s2 r (mapped (call (r .handed)) (familyOf p))
   unfolding familyOf
   header-found header at (Until after) step body e = record {
     same = rw (e, ← step .0, ← body .same);
@@ -79,24 +79,24 @@ module _ (text ops : List ℕ) (s1 s2 : Strand) (p : Parts) (r : FamilyRead) (h1
     r2-held = h2;
   }
   header-found header at (Stopped stop) step body e = record {
-    same = rw (e, ← step .0, ← body .same) (sym (mapped-stopped text (call (r .ledger)) stop));
+    same = rw (e, ← step .0, ← body .same) (sym (mapped-stopped text (call (r .handed)) stop));
     within = rw e (body .within);
     r1-held = h1;
     r2-held = h2;
   }
 
 -- a text with something left holds a family, or the beginning of one
-one-more : (ledger : Counts) (text : List ℕ) (at : ℕ) → at < length text → familyOrEnd ledger (linesFrom text at) ≡ mapped (call ledger) (familyOf (linesFrom text at))
+one-more : (handed : Handed) (text : List ℕ) (at : ℕ) → at < length text → familyOrEnd handed (linesFrom text at) ≡ mapped (call handed) (familyOf (linesFrom text at))
 unfolding familyOrEnd familyOf parts inFront oneLine
-one-more ledger text at h = rw (drop-cons text at 0 h) (go (eqb (getD text at 0) 10) (getD text at 0) (parts 10 (drop (suc at) text)))
+one-more handed text at h = rw (drop-cons text at 0 h) (go (eqb (getD text at 0) 10) (getD text at 0) (parts 10 (drop (suc at) text)))
   where
-    go : (t : Bool) (b : ℕ) (p : Parts) → familyOrEnd ledger (cond t (ended [] p) (inFront b p)) ≡ mapped (call ledger) (familyOf (cond t (ended [] p) (inFront b p)))
+    go : (t : Bool) (b : ℕ) (p : Parts) → familyOrEnd handed (cond t (ended [] p) (inFront b p)) ≡ mapped (call handed) (familyOf (cond t (ended [] p) (inFront b p)))
     go true b p = refl
     go false b (last part) = refl
     go false b (ended part more) = refl
 
-module _ (text ops : List ℕ) (s1 s2 : Strand) (p : Parts) (ledger handed : Counts) (r : FamilyRead) where
-  pub call-stop : (stop : Stop) → Steps text handed (Stopped stop) (ledgersFrom ledger p) → r .ending ≡ endings.Stopped stop → Held (r .r1) → Held (r .r2) → FamilySteps text ops s1 s2 r (callOf ledger p)
+module _ (text ops : List ℕ) (s1 s2 : Strand) (p : Parts) (before handed : Handed) (r : FamilyRead) where
+  pub call-stop : (stop : Stop) → Steps text handed (Stopped stop) (ledgersFrom before p) → r .ending ≡ endings.Stopped stop → Held (r .r1) → Held (r .r2) → FamilySteps text ops s1 s2 r (callOf before p)
   unfolding callOf
   call-stop stop step e h1 h2 = record {
     same = rw (e, ← step .same) (sym (next-stopped text stop (λ handed rest. familyOrEnd handed rest)));
@@ -105,12 +105,12 @@ module _ (text ops : List ℕ) (s1 s2 : Strand) (p : Parts) (ledger handed : Cou
     r2-held = h2;
   }
 
-  pub call-end : (at : ℕ) → length text ≤ at → Steps text handed (Until at) (ledgersFrom ledger p) → r .ending ≡ endings.End → r .ledger ≡ handed → Held (r .r1) → Held (r .r2)
-      → FamilySteps text ops s1 s2 r (callOf ledger p)
+  pub call-end : (at : ℕ) → length text ≤ at → Steps text handed (Until at) (ledgersFrom before p) → r .ending ≡ endings.End → r .handed ≡ handed → Held (r .r1) → Held (r .r2)
+      → FamilySteps text ops s1 s2 r (callOf before p)
   unfolding callOf familyOrEnd parts
   call-end at h step e l h1 h2 = record { same = rw (e, l, ← step .same, drop-of-length-le text h); within = rw e tt; r1-held = h1; r2-held = h2 }
 
-  pub call-family : (at : ℕ) → at < length text → Steps text handed (Until at) (ledgersFrom ledger p) → FamilySteps text ops s1 s2 r (mapped (call handed) (familyOf (linesFrom text at)))
-      → FamilySteps text ops s1 s2 r (callOf ledger p)
+  pub call-family : (at : ℕ) → at < length text → Steps text handed (Until at) (ledgersFrom before p) → FamilySteps text ops s1 s2 r (mapped (call handed) (familyOf (linesFrom text at)))
+      → FamilySteps text ops s1 s2 r (callOf before p)
   unfolding callOf
   call-family at h step more = record { same = rw (← step .same, one-more handed text at h) (more .same); within = more .within; r1-held = more .r1-held; r2-held = more .r2-held }

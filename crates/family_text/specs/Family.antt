@@ -1,10 +1,9 @@
--- The text form: a family is its header, RECORDS lines of records, its operation words, and its strands; ledgers may stand in front.
+-- The text form: a family is its header, RECORDS lines of records, its operation words, and its strands; lines that set what it is handed may stand in front.
 use mathlib.Core.List.{List, [], _∷_}
 use mathlib.Core.Path.{_≡_}
 use Prim.Native.Nat.{ℕ, _≤_}
 use lib.ListN.{length, take}
 use Rattle.codec_duplex.specs.Columns.{Strand}
-use Rattle.codec_stats.specs.Ledger.{Counts}
 use Rattle.codec_select.specs.declared.records.Record.{Record}
 use Rattle.table_text.specs.Parts.{Parts, last, ended}
 use Rattle.family_text.specs.Header.{headerOf}
@@ -24,6 +23,7 @@ use Rattle.family_text.specs.declared.lines.Next.{Next}
 use Rattle.family_text.specs.declared.lines.Next.the-variants.{Until, Stopped}
 use Rattle.family_text.specs.declared.header.HeaderLine.{HeaderLine}
 use Rattle.family_text.specs.declared.header.HeaderLine.the-variants.{Found, Malformed}
+use Rattle.family_text.specs.declared.settings.Handed.{Handed}
 
 abbrev pub headerParsed : HeaderLine → Parsed Header
 headerParsed (Found h) = parsed h
@@ -53,26 +53,26 @@ familyFrom header text =
 unfoldable pub familyOf : Parts → Reading Family
 familyOf text = andNext (oneLine headerLine text) λ header rest. familyFrom header rest
 
--- a family and the ledger that it is handed; or no family any more
+-- a family and what it is handed; or no family any more
 pub data Call : Type 0 where
-  call : Counts → Family → Call
-  noMore : Counts → Call
+  call : Handed → Family → Call
+  noMore : Handed → Call
 
 -- the text ends between two families, or there is one more
-unfoldable pub familyOrEnd : Counts → Parts → Reading Call
-familyOrEnd ledger (last []) = got (noMore ledger) (last [])
-familyOrEnd ledger (last (b ∷ bs)) = cut (last (b ∷ bs))
-familyOrEnd ledger (ended line more) = mapped (call ledger) (familyOf (ended line more))
+unfoldable pub familyOrEnd : Handed → Parts → Reading Call
+familyOrEnd handed (last []) = got (noMore handed) (last [])
+familyOrEnd handed (last (b ∷ bs)) = cut (last (b ∷ bs))
+familyOrEnd handed (ended line more) = mapped (call handed) (familyOf (ended line more))
 
--- the next call of a text, the ledger so far given
-unfoldable pub callOf : Counts → Parts → Reading Call
-callOf ledger text = andNext (ledgersFrom ledger text) λ handed rest. familyOrEnd handed rest
+-- the next call of a text, what is handed so far given
+unfoldable pub callOf : Handed → Parts → Reading Call
+callOf before text = andNext (ledgersFrom before text) λ handed rest. familyOrEnd handed rest
 
 -- an answer about a text, with the lines from its place on; words and strands stand in the first places of columns
-abbrev pub endingIn : List ℕ → Counts → (Header → Family) → Ending → Reading Call
-endingIn text ledger found (endings.Family header at) = got (call ledger (found header)) (linesFrom text at)
-endingIn text ledger found endings.End = got (noMore ledger) (last [])
-endingIn text ledger found (endings.Stopped stop) = stopIn text stop
+abbrev pub endingIn : List ℕ → Handed → (Header → Family) → Ending → Reading Call
+endingIn text handed found (endings.Family header at) = got (call handed (found header)) (linesFrom text at)
+endingIn text handed found endings.End = got (noMore handed) (last [])
+endingIn text handed found (endings.Stopped stop) = stopIn text stop
 
 abbrev pub endedBy : Header → Next → Ending
 endedBy header (Until at) = endings.Family header at
@@ -96,7 +96,7 @@ EndingWithin text (endings.Stopped stop) = stopPlace stop ≤ length text
 
 -- an answer agrees with a reading
 pub record FamilySteps (text ops : List ℕ) (r1 r2 : Strand) (r : FamilyRead) (reading : Reading Call) : Type 0 where
-  pub same : endingIn text (r .ledger) (readIn ops r1 r2 r) (r .ending) ≡ reading
+  pub same : endingIn text (r .handed) (readIn ops r1 r2 r) (r .ending) ≡ reading
   pub within : EndingWithin text (r .ending)
   pub r1-held : Held (r .r1)
   pub r2-held : Held (r .r2)

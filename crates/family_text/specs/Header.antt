@@ -1,13 +1,11 @@
--- The text form: `F RECORDS WORDS MIN CAP MINDUPLEX LEGACY OUTERLEN OUTERQ SSQ MAXDIS RATE R1 R2 COLS LIST MARKS`, and `G` and 20 numbers.
+-- The text form: `F RECORDS WORDS MIN CAP MINDUPLEX LEGACY OUTERLEN OUTERQ SSQ MAXDIS RATE R1 R2 COLS LIST MARKS`.
 use mathlib.Core.Bool.{cond}
 use mathlib.Core.List.{List, [], _∷_}
 use Prim.Native.Char.{code}
-use Prim.Native.Nat.{ℕ, _+_}
+use Prim.Native.Nat.{ℕ}
 use lib.Dec.{eqb}
 use lib.Ieee.{ofBits, binary64}
-use lib.ListN.{getD, replicate}
-use Rattle.lists.specs.Tabulate.{tabulate}
-use Rattle.codec_stats.specs.Ledger.{Counts}
+use lib.ListN.{getD}
 use Rattle.codec_select.specs.declared.options.Options.{Options}
 use Rattle.table_text.specs.Text.{bytesOf}
 use Rattle.family_text.specs.Line.{lineOf}
@@ -67,23 +65,3 @@ headerIn found = cond (found .«well_formed») (Found (headerFrom (found .values
 -- a family's first line
 unfoldable pub headerOf : List ℕ → HeaderLine
 headerOf line = headerIn (lineOf (code "F") headerKinds headerLimits line)
-
--- the figures in the order of the ledger: families, records, the ten reasons, and the other counts
-unfoldable pub ledgerFrom : List Value → Counts
-ledgerFrom values = record {
-  families = numberAt values 0;
-  records = numberAt values 1;
-  reasons = tabulate (λ i. numberAt values (2 + i)) 10;
-  «passed_over» = numberAt values 12;
-  «no_strand» = numberAt values 13;
-  used = numberAt values 14;
-  «disagreement_rejected» = numberAt values 15;
-  duplexes = numberAt values 16;
-  bases = numberAt values 17;
-  «duplex_bases» = numberAt values 18;
-  disagreements = numberAt values 19;
-}
-
--- a ledger's line: twenty numbers of 64 bits
-unfoldable pub ledgerOf : List ℕ → Values
-ledgerOf line = lineOf (code "G") (replicate 20 (code "n")) (replicate 20 any) line

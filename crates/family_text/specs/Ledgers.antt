@@ -1,27 +1,18 @@
--- The text form: `G` and 20 numbers, any number of such lines in front of a family.
-use mathlib.Core.Bool.{Bool, true, false, cond}
-use mathlib.Core.List.{List}
-use Prim.Native.Char.{code}
-use Prim.Native.Nat.{ℕ}
-use Rattle.codec_stats.specs.Ledger.{Counts}
-use Rattle.table_text.specs.Fields.{Read, read, malformed, fieldsOf}
+-- The text form: any number of lines that set what is handed stand in front of a family.
 use Rattle.table_text.specs.Parts.{Parts, last, ended}
-use Rattle.family_text.specs.Header.{ledgerFrom, ledgerOf}
-use Rattle.family_text.specs.Line.{tagField}
 use Rattle.family_text.specs.Reading.{Reading, got, wrong}
+use Rattle.family_text.specs.Settings.{settingOf}
+use Rattle.family_text.specs.declared.settings.Handed.{Handed}
+use Rattle.family_text.specs.declared.settings.Told.{Told}
+use Rattle.family_text.specs.declared.settings.Told.the-variants.{Set, Malformed, Other}
 
-abbrev pub found : Read ℕ → Bool
-found (read tag rest) = true
-found malformed = false
+abbrev pub byTold : {A : Type 0} → Told → (set malformed other : A) → A
+byTold Set set malformed other = set
+byTold Malformed set malformed other = malformed
+byTold Other set malformed other = other
 
--- a line with the tag of a ledger
-unfoldable pub isLedger : List ℕ → Bool
-isLedger line = found (tagField (code "G") (fieldsOf line))
-
--- up to the first line that is none: 'from here on the ledger holds these figures'
-unfoldable pub ledgersFrom : Counts → Parts → Reading Counts
-ledgersFrom ledger (last text) = got ledger (last text)
-ledgersFrom ledger (ended text more) =
-    cond (isLedger text)
-    (cond (ledgerOf text .«well_formed») (ledgersFrom (ledgerFrom (ledgerOf text .values)) more) (wrong (ended text more)))
-    (got ledger (ended text more))
+-- up to the first line that is none of them
+unfoldable pub ledgersFrom : Handed → Parts → Reading Handed
+ledgersFrom h (last text) = got h (last text)
+ledgersFrom h (ended text more) =
+    byTold (settingOf h text .told) (ledgersFrom (settingOf h text .handed) more) (wrong (ended text more)) (got h (ended text more))

@@ -9,5 +9,6 @@ pub mod Parsed
 pub mod Reading
 pub mod Record
 pub mod Records
+pub mod Settings
 pub mod Strands
 pub mod Value

@@ -19,6 +19,14 @@ tagField tag ([] ∷ rest) = malformed
 tagField tag ((b ∷ []) ∷ rest) = cond (eqb b tag) (read b rest) malformed
 tagField tag ((b ∷ c ∷ bs) ∷ rest) = malformed
 
+-- the first field is these two letters alone
+unfoldable pub pairField : (first second : ℕ) → List (List ℕ) → Read ℕ
+pairField first second [] = malformed
+pairField first second ([] ∷ rest) = malformed
+pairField first second ((b ∷ []) ∷ rest) = malformed
+pairField first second ((b ∷ c ∷ []) ∷ rest) = cond (eqb b first) (cond (eqb c second) (read b rest) malformed) malformed
+pairField first second ((b ∷ c ∷ d ∷ bs) ∷ rest) = malformed
+
 -- an answer about a line, with the fields from its place on
 abbrev pub tagIn : List ℕ → ℕ → Tag → Read ℕ
 tagIn line tag (tags.Until next) = read tag (fieldsFrom line next)

@@ -1,4 +1,4 @@
-// A family call as text: its header, its records, its operation words and its strands, with ledgers in front.
+// A family call as text: its header, its records, its operation words and its strands, with lines in front that set what it is handed.
 use crate::header;
 use crate::header::Header;
 use crate::header::HeaderLine;
@@ -6,10 +6,10 @@ use crate::ledgers;
 use crate::lines::Next;
 use crate::lines::Stop;
 use crate::records;
+use crate::settings::Handed;
 use crate::strands;
 use codec_family::room::Widths;
 use codec_select::records::Record;
-use codec_stats::ledger::Ledger;
 use table_text::parts;
 ghost use mathlib.Core.Path.{_≡_};
 ghost use Prim.Native.Nat.{_≤_};
@@ -42,10 +42,10 @@ pub struct Body {
     pub r2: Widths,
 }
 
-// A family with the ledger that it is handed.
+// A family with what it is handed.
 pub struct FamilyRead {
     pub ending: Ending,
-    pub ledger: Ledger,
+    pub handed: Handed,
     pub table: [Record; records::RECORDS],
     pub r1: Widths,
     pub r2: Widths,
@@ -134,13 +134,13 @@ fn ended(found: Header, next: Next) -> Ending
     }
 }
 
-// Nothing was read but the ledger.
-fn unread(ending: Ending, ledger: Ledger) -> FamilyRead
-    ensures { λ r. ⌜ (r .ending ≡ ending) × (r .ledger ≡ ledger) × Held (r .r1) × Held (r .r2) ⌝ }
+// Nothing was read but what is handed.
+fn unread(ending: Ending, handed: Handed) -> FamilyRead
+    ensures { λ r. ⌜ (r .ending ≡ ending) × (r .handed ≡ handed) × Held (r .r1) × Held (r .r2) ⌝ }
 {
     FamilyRead {
         ending,
-        ledger,
+        handed,
         table: records::blank_table(),
         r1: strands::no_widths(),
         r2: strands::no_widths(),
@@ -150,7 +150,7 @@ fn unread(ending: Ending, ledger: Ledger) -> FamilyRead
 fn family_at(
     text: &[u8],
     at: usize,
-    ledger: Ledger,
+    handed: Handed,
     ops: &mut [u32],
     r1_bases: &mut [u8],
     r1_quals: &mut [u8],
@@ -168,10 +168,10 @@ fn family_at(
         FamilySteps (now (text .entry)) (now (ops .exit))
         (strand (now («r1_bases» .exit)) (now («r1_quals» .exit)) (now («r1_depths» .exit)) (now («r1_errors» .exit)))
         (strand (now («r2_bases» .exit)) (now («r2_quals» .exit)) (now («r2_depths» .exit)) (now («r2_errors» .exit)))
-        r (mapped (call ledger) (familyOf (linesFrom (now (text .entry)) at))) ⌝ }
+        r (mapped (call handed) (familyOf (linesFrom (now (text .entry)) at))) ⌝ }
 {
     match next_header(text, at) {
-        HeaderNext::Stopped(stop) => unread(Ending::Stopped(stop), ledger),
+        HeaderNext::Stopped(stop) => unread(Ending::Stopped(stop), handed),
         HeaderNext::Found(found, after) => {
             let body = next_body(
                 text,
@@ -193,7 +193,7 @@ fn family_at(
             let r2 = body.r2;
             FamilyRead {
                 ending: ended(found, next),
-                ledger,
+                handed,
                 table,
                 r1,
                 r2,
@@ -202,12 +202,12 @@ fn family_at(
     }
 }
 
-// The next family of a text whose lines begin at `start`, or where the reading stops; the ledger so far is handed to it, or that of the
-// last line of figures in front of it.
+// The next family of a text whose lines begin at `start`, or where the reading stops; what was handed before it is handed to it, as the lines
+// in front of it set it.
 pub fn next_family(
     text: &[u8],
     start: usize,
-    ledger: Ledger,
+    before: Handed,
     ops: &mut [u32],
     r1_bases: &mut [u8],
     r1_quals: &mut [u8],
@@ -225,10 +225,10 @@ pub fn next_family(
         FamilySteps (now (text .entry)) (now (ops .exit))
         (strand (now («r1_bases» .exit)) (now («r1_quals» .exit)) (now («r1_depths» .exit)) (now («r1_errors» .exit)))
         (strand (now («r2_bases» .exit)) (now («r2_quals» .exit)) (now («r2_depths» .exit)) (now («r2_errors» .exit)))
-        r (callOf ledger (linesFrom (now (text .entry)) start)) ⌝ }
+        r (callOf before (linesFrom (now (text .entry)) start)) ⌝ }
 {
-    let given = ledgers::read_ledgers(text, start, ledger);
-    let handed = given.ledger;
+    let given = ledgers::read_ledgers(text, start, before);
+    let handed = given.handed;
     let next = given.next;
     match next {
         Next::Stopped(stop) => unread(Ending::Stopped(stop), handed),

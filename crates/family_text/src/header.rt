@@ -1,13 +1,11 @@
-// The first line of a family, `F RECORDS WORDS MIN CAP MINDUPLEX LEGACY OUTERLEN OUTERQ SSQ MAXDIS RATE R1 R2 COLS LIST MARKS`, and the line
-// of a ledger's figures.
+// The first line of a family, `F RECORDS WORDS MIN CAP MINDUPLEX LEGACY OUTERLEN OUTERQ SSQ MAXDIS RATE R1 R2 COLS LIST MARKS`.
 use crate::line;
-use crate::line::Values;
 use crate::value::Value;
 use codec_select::options::Options;
 ghost use mathlib.Core.Path.{_≡_};
 ghost use lib.Ieee.{ofBits, binary64};
 ghost use Rattle.family_text.specs.Fit.{Fitting};
-ghost use Rattle.family_text.specs.Header.{headerKinds, headerLimits, optionsFrom, headerFrom, headerOf, ledgerOf};
+ghost use Rattle.family_text.specs.Header.{headerKinds, headerLimits, optionsFrom, headerFrom, headerOf};
 
 // How many lines and words follow, the options, which strands are there, and the lengths of the lent columns.
 pub struct Header {
@@ -106,12 +104,4 @@ pub fn header_line(line: &[u8]) -> HeaderLine
     } else {
         HeaderLine::Malformed
     }
-}
-
-// The twenty figures of a ledger.
-pub fn ledger_line(line: &[u8]) -> Values
-    ensures { λ r. ⌜ r ≡ ledgerOf (now (line .entry)) ⌝ }
-{
-    let limits = [18446744073709551615u64; 20];
-    line::read_line(line, b'G', b"nnnnnnnnnnnnnnnnnnnn", &limits)
 }

@@ -9,5 +9,6 @@ pub mod lines;
 pub mod numbers;
 pub mod record;
 pub mod records;
+pub mod settings;
 pub mod strands;
 pub mod value;

@@ -7,7 +7,7 @@ ghost use mathlib.Core.Path.{_≡_};
 ghost use Prim.Native.Nat.{_≤_};
 ghost use lib.ListN.{length};
 ghost use Rattle.table_text.specs.Fields.{fieldsFrom, fieldsOf};
-ghost use Rattle.family_text.specs.Line.{tagField, tagIn, valuesOf, valuesPlaced, noValues, lineOf};
+ghost use Rattle.family_text.specs.Line.{tagField, pairField, tagIn, valuesOf, valuesPlaced, noValues, lineOf};
 
 // No line has more fields behind its tag than the ledger's.
 pub const FIELDS: usize = 20;
@@ -39,6 +39,24 @@ pub fn read_tag(line: &[u8], tag: u8) -> Tag
     }
 }
 
+// Whether a line begins with this tag of two letters alone.
+pub(crate) fn read_pair(line: &[u8], first: u8, second: u8) -> Tag
+    ensures { λ r. ⌜ tagIn (now (line .entry)) first r ≡ pairField first second (fieldsOf (now (line .entry))) ⌝ }
+{
+    let end = parts::part_end(line, 0, b' ');
+    if end != 2 {
+        return Tag::Other;
+    }
+    if line[0] != first {
+        return Tag::Other;
+    }
+    if line[1] == second {
+        Tag::Until(3)
+    } else {
+        Tag::Other
+    }
+}
+
 fn malformed() -> Values
     ensures { λ r. ⌜ r ≡ valuesPlaced noValues ⌝ }
 {
@@ -54,7 +72,7 @@ fn malformed() -> Values
 }
 
 // The fields from a place on, one for each kind and limit, and none after them.
-fn read_fields(line: &[u8], start: usize, kinds: &[u8], limits: &[u64]) -> Values
+pub(crate) fn read_fields(line: &[u8], start: usize, kinds: &[u8], limits: &[u64]) -> Values
     requires { ⌜ (length (now kinds) ≡ length (now limits)) × (length (now kinds) ≤ 20) ⌝ }
     ensures { λ r. ⌜ r ≡ valuesPlaced (valuesOf (now (kinds .entry)) (now (limits .entry)) (fieldsFrom (now (line .entry)) start)) ⌝ }
 {

@@ -30,16 +30,19 @@ pub fn make_room(output: &[u8], to: usize, room: usize) -> usize
     0
 }
 
-fn write_refusal(line: usize) {
-    io::write_all(STDOUT_FILENO, b"refused 13 ");
-    io::print_decimal(STDOUT_FILENO, line as u64);
+// A refusal by its number, and what goes with it.
+pub fn write_refusal(number: u64, given: u64) {
+    io::write_all(STDOUT_FILENO, b"refused ");
+    io::print_decimal(STDOUT_FILENO, number);
+    io::write_all(STDOUT_FILENO, b" ");
+    io::print_decimal(STDOUT_FILENO, given);
     io::write_all(STDOUT_FILENO, b"\n");
 }
 
 pub fn report(verdict: Verdict) {
     match verdict {
         Verdict::Read => {}
-        Verdict::Malformed(line) => write_refusal(line),
+        Verdict::Malformed(line) => write_refusal(13, line as u64),
         Verdict::Unreadable => {
             io::write_all(STDERR_FILENO, b"the input could not be read to its end\n");
         }

@@ -2,11 +2,13 @@
 use codec_stats::ledger::Ledger;
 use family_text::lines::Next;
 use family_text::lines::Stop;
+use family_text::settings::Handed;
 use libc::STDERR_FILENO;
 ghost use mathlib.Core.Path.{_≡_};
 ghost use Prim.Native.Nat.{_+_, _^_, _≤_, _<_};
 ghost use lib.ListN.{length};
 ghost use Rattle.codec_stats.specs.Ledger.{fresh};
+ghost use Rattle.family_text.specs.Settings.{freshHanded};
 ghost use Rattle.family_windows.specs.Places.{stopped, SizeWithin};
 
 // A well-formed family is shorter: 600 records, 9,000 words and eight columns of 1,100 places are below 200,000 bytes.
@@ -24,7 +26,7 @@ pub enum Size {
 }
 
 // All counts are 0.
-pub fn fresh_ledger() -> Ledger
+fn fresh_ledger() -> Ledger
     ensures { λ r. ⌜ r ≡ fresh ⌝ }
 {
     Ledger {
@@ -39,6 +41,18 @@ pub fn fresh_ledger() -> Ledger
         bases: 0,
         duplex_bases: 0,
         disagreements: 0,
+    }
+}
+
+// What the first family of a file is handed.
+pub fn fresh_handed() -> Handed
+    ensures { λ r. ⌜ r ≡ freshHanded ⌝ }
+{
+    Handed {
+        ledger: fresh_ledger(),
+        samples: [0; 1920],
+        sample: 0,
+        named: false,
     }
 }
 
@@ -64,7 +78,7 @@ pub fn read_window(file: i32, offset: usize, size: usize, window: &mut [u8]) -> 
     expected
 }
 
-// A family that the window cuts begins the next one, the ledgers in front of it read; but nothing follows the last window, and no
+// A family that the window cuts begins the next one, the lines in front of it read; but nothing follows the last window, and no
 // well-formed family fills one.
 pub fn stop_window(ledgers: Next, stop: Stop, ends: bool, to: usize) -> Reached
     ensures { λ r. ⌜ r ≡ stopped ledgers stop ends to ⌝ }

@@ -8,7 +8,8 @@ use Rattle.codec_family.specs.Answer.{EMPTY, NO-STRAND, REJECTED, saysCalled}
 use Rattle.codec_family.specs.declared.answer.FamilyAnswer.{FamilyAnswer}
 use Rattle.codec_family.specs.declared.answer.FamilyEnding.{FamilyEnding}
 use Rattle.table_text.specs.Text.{bytesOf}
-use Rattle.answer_text.specs.Line.{texts, fieldsText, lineWith}
+use Rattle.table_text.specs.Texts.{texts}
+use Rattle.answer_text.specs.Line.{fieldsText, lineWith}
 
 -- document 01: 'Reasons 1 to 10', the first place for the number 0, which is none
 abbrev pub reasonNames : List (List ℕ)

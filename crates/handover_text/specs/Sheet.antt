@@ -9,8 +9,9 @@ use Rattle.codec_stats.specs.declared.rates.LedgerRates.{LedgerRates}
 use Rattle.codec_stats.specs.declared.rates.LedgerRates.the-variants.{Rates, Refused}
 use Rattle.table_text.specs.Decimal.{decimal}
 use Rattle.table_text.specs.Text.{bytesOf, space}
+use Rattle.table_text.specs.Texts.{texts}
 use Rattle.handover_text.specs.Handover.{reasonName}
-use Rattle.answer_text.specs.Line.{texts, fieldsText, lineWith, lineText}
+use Rattle.answer_text.specs.Line.{fieldsText, lineWith, lineText}
 
 -- a reason's name and its count
 unfoldable pub reasonText : (reason count : ℕ) → List ℕ

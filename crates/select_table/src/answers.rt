@@ -3,13 +3,13 @@ use answer_text::selection_text;
 use codec_select::alone;
 use codec_select::columns::columns_of;
 use codec_select::records::Record;
-use codec_stats::ledger::Ledger;
 use family_text::column;
 use family_text::family;
 use family_text::family::Ending;
 use family_text::header::Header;
 use family_text::ledgers;
 use family_text::lines::Stop;
+use family_text::settings::Handed;
 use family_windows::output;
 use family_windows::windows;
 use family_windows::windows::Reached;
@@ -45,7 +45,7 @@ fn answer_next(
     text: &[u8],
     at: usize,
     answering: bool,
-    ledger: Ledger,
+    handed: Handed,
     ops: &mut [u32],
     output: &mut [u8],
     to: usize,
@@ -64,7 +64,7 @@ fn answer_next(
     let read = family::next_family(
         text,
         at,
-        ledger,
+        handed,
         ops,
         &mut r1_bases,
         &mut r1_quals,
@@ -102,17 +102,17 @@ pub fn answer_window(
     requires { ⌜ (0 < length (now text)) × (9000 ≤ length (now ops)) × (filled ≤ length (now output)) × (433 ≤ length (now output)) ⌝ }
     ensures { λ r. ⌜ ReachedWithin (length (now (text .entry))) (length (now (output .exit))) r ⌝ }
 {
-    let ledger = windows::fresh_ledger();
+    let handed = windows::fresh_handed();
     let mut at = 0;
     let mut to = filled;
     while at < text.len() {
-        match answer_next(text, at, answering, ledger, ops, output, to) {
+        match answer_next(text, at, answering, handed, ops, output, to) {
             Step::Until(after, more) => {
                 at = after;
                 to = more;
             }
             Step::Stopped(stop) => {
-                let begun = ledgers::read_ledgers(text, at, ledger);
+                let begun = ledgers::read_ledgers(text, at, handed);
                 let next = begun.next;
                 return windows::stop_window(next, stop, ends, to);
             }

@@ -1,6 +1,6 @@
 -- Laws of a text stored in a buffer.
 use mathlib.Core.List.{List, [], _∷_, _++_}
-use mathlib.Core.Path.{_≡_, sym, _∙_}
+use mathlib.Core.Path.{_≡_, refl, sym, _∙_}
 use Prim.Native.Nat.{ℕ, suc, _+_, _^_, _≤_, _<_}
 use native.Mathlib.Omega.{arith}
 use lib.ListN.{length, length-append}
@@ -10,6 +10,10 @@ use Rattle.lists.proofs.Sets.{sets-append, sets-written}
 use Rattle.table_text.specs.Decimal.{decimal}
 use Rattle.table_text.specs.OutputTable.{numberText, Stored}
 use Rattle.table_text.proofs.Decimals.{length-decimal}
+
+-- nothing is stored
+pub none-stored : (old : List ℕ) (to : ℕ) → Stored [] old to old to
+none-stored old to = (omega arith, refl)
 
 module _ (text more old : List ℕ) (to : ℕ) where
   -- what is left to store, once the first text is stored

@@ -8,3 +8,4 @@ pub mod Parts
 pub mod Reading
 pub mod Rows
 pub mod Text
+pub mod Texts

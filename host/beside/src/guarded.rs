@@ -1,6 +1,7 @@
 //! Lent columns with guards on both sides, and a look at every place after a call.
 
-use codec_host::{Lent, Results};
+use codec_host::{Lent, Results, Samples};
+use oracle::model::Ledger;
 
 /// Cells before and behind a lent column.
 const GUARD: usize = 24;
@@ -15,15 +16,19 @@ pub struct Guarded<T> {
 }
 
 impl<T: Copy + PartialEq> Guarded<T> {
-    /// Cells of which no two near ones are alike.
     fn new(cell: impl Fn(u64) -> T) -> Self {
+        Self::of(MOST, cell)
+    }
+
+    /// Cells of which no two near ones are alike, so many of them for lending.
+    pub fn of(most: usize, cell: impl Fn(u64) -> T) -> Self {
         let mix = |at: u64| at.wrapping_mul(0x9e37_79b9_7f4a_7c15).rotate_left(23);
-        let pattern: Vec<T> = (0..(MOST + 2 * GUARD) as u64).map(|at| cell(mix(at + 1))).collect();
+        let pattern: Vec<T> = (0..(most + 2 * GUARD) as u64).map(|at| cell(mix(at + 1))).collect();
         Self { cells: pattern.clone(), pattern, length: 0 }
     }
 
     /// Lends so many cells, all as they were at first.
-    fn lend(&mut self, length: usize) -> &mut [T] {
+    pub fn lend(&mut self, length: usize) -> &mut [T] {
         self.cells.copy_from_slice(&self.pattern);
         self.length = length;
         &mut self.cells[GUARD..GUARD + length]
@@ -42,7 +47,7 @@ impl<T: Copy + PartialEq> Guarded<T> {
     }
 
     /// Whether the first places hold this, and nothing else was touched.
-    fn holds(&self, answer: &[T]) -> bool {
+    pub fn holds(&self, answer: &[T]) -> bool {
         self.first(answer.len()) == answer && self.untouched_but(answer.len())
     }
 }
@@ -80,6 +85,30 @@ impl Strand {
             && self.quals.holds(&answer.quals)
             && self.depths.holds(&answer.depths)
             && self.errors.holds(&answer.errors)
+    }
+}
+
+/// The samples' ledgers between guards.
+#[repr(C)]
+pub struct GuardedSamples {
+    before: [u64; GUARD],
+    pub lent: Samples,
+    behind: [u64; GUARD],
+}
+
+impl GuardedSamples {
+    const CELL: u64 = 0x5aa5_1221_c33c_8778;
+
+    pub fn new(ledgers: &[Ledger]) -> Self {
+        let lent = Samples::from(std::array::from_fn(|at| ledgers[at / 20].0[at % 20]));
+        Self { before: [Self::CELL; GUARD], lent, behind: [Self::CELL; GUARD] }
+    }
+
+    /// Whether the ledgers are these, and no guard was touched.
+    pub fn holds(&self, ledgers: &[Ledger]) -> bool {
+        let guards = self.before.iter().chain(&self.behind);
+        ledgers.iter().flat_map(|ledger| &ledger.0).eq(self.lent.counts())
+            && guards.copied().all(|cell| cell == Self::CELL)
     }
 }
 

@@ -1,11 +1,11 @@
 //! The exported calls held against the second reader of document 01, with every place looked at.
 
-use crate::guarded::{Room, Strand};
+use crate::guarded::{Guarded, GuardedSamples, Room, Strand};
 use crate::noise::Hostile;
 use codec_host::text::Columns;
 use codec_host::{
     Answer, Dispatcher, Ending, FamilyAnswer, Ledger, Limits, Options, Rates, Reason, Record,
-    Refusal, Selection, Turn, combine, family, select,
+    Refusal, Selection, Turn, combine, family, select, sheet,
 };
 use oracle::model;
 use oracle::plain::Reader;
@@ -72,27 +72,34 @@ pub fn family_call(hostile: &Hostile, room: &mut Room) -> Result<Ending, String>
     let hosted = Hosted::new(&hostile.family);
     let again = Hosted::new(&hostile.family);
     let [r1, r2] = hosted.strands.each_ref().map(|strand| strand.as_ref().map(Columns::strand));
-    let ledger = Ledger::from(hostile.ledger.0);
-    let lent = room.lend(&hostile.lengths);
-    let found = family(&hosted.records, &hosted.ops, &hosted.options, r1, r2, ledger, lent);
+    let (books, sample) = (&hostile.books, hostile.sample);
+    let ledger = Ledger::from(books.run.0);
+    let mut samples = GuardedSamples::new(&books.samples);
+    let found = {
+        let Hosted { records, ops, options, .. } = &hosted;
+        let (own, lent) = (&mut samples.lent, room.lend(&hostile.lengths));
+        family(records, ops, options, r1, r2, ledger, sample, own, lent)
+    };
     let lent_as_it_was = hosted.records == again.records
         && hosted.ops == again.ops
         && hosted.strands == again.strands;
     if !lent_as_it_was {
         return Err("the call wrote into what it reads".to_string());
     }
-    match READER.family_call(&hostile.family, &hostile.ledger) {
+    match READER.family_call(&hostile.family, sample, books) {
         Err(refused) => {
             let answer =
                 FamilyAnswer { ending: Ending::Refused(refusal(refused)), listed: 0, ledger };
             same(&found, &answer)?;
             untouched(room)?;
             touched(room.lists(&[], &[]), "list or marks")?;
+            touched(samples.holds(&books.samples), "samples")?;
         }
         Ok(expected) => {
             let (ending, strands) = ending(&expected.ending);
             let listed = expected.list.len();
-            same(&found, &FamilyAnswer { ending, listed, ledger: expected.ledger.0.into() })?;
+            same(&found, &FamilyAnswer { ending, listed, ledger: expected.books.run.0.into() })?;
+            touched(samples.holds(&expected.books.samples), "samples")?;
             match strands {
                 Some(strands) => {
                     for (lent, strand) in room.strands.iter().zip(strands) {
@@ -225,6 +232,21 @@ pub fn rates(counts: [u64; 20]) -> Result<bool, String> {
         same(&rates.rate.to_bits(), &stats.duplex_disagreement_rate().to_bits())?;
     }
     Ok(found.is_ok())
+}
+
+/// The sheet of these ledgers in so many bytes; its length, or what is wrong.
+pub fn sheets(
+    ledgers: &[model::Ledger],
+    room: usize,
+    buffer: &mut Guarded<u8>,
+) -> Result<Result<usize, Refusal>, String> {
+    let samples = GuardedSamples::new(ledgers);
+    let found = sheet(&samples.lent, buffer.lend(room));
+    let expected = READER.sheet(ledgers, room).map_err(refusal);
+    same(&found, &expected.as_ref().map(String::len).map_err(|refused| *refused))?;
+    touched(samples.holds(ledgers), "samples")?;
+    touched(buffer.holds(expected.unwrap_or_default().as_bytes()), "buffer")?;
+    Ok(found)
 }
 
 /// An add and a turn of the same dispatcher; what the turn came to, or what is wrong.

@@ -1,21 +1,27 @@
 //! Hostile families: noise, and valid ones with one thing broken.
 
+mod ledgers;
+
 use crate::guarded::Lengths;
 use crate::rng::Rng;
-use oracle::model::{Family, Ledger, Options, Record, Strand};
+use ledgers::{books, break_ledger, sample, small_ledger};
+use oracle::model::{Books, Family, Ledger, Options, Record, Strand};
 use oracle::plain::lanes::Lanes;
+
+pub use ledgers::{SHEET_MOST, count, ledgers, sheet_room};
 
 /// The least lengths that are no refusal.
 pub const ROOM: Lengths = [
     2_048, 2_048, 2_048, 2_048, 2_048, 2_048, 2_048, 2_048, 2_048, 2_048, 2_048, 2_048, 512, 512, 8,
 ];
 
-/// A family, the lengths of what is lent, and the ledger: one hostile call.
+/// A family, its sample, the lengths of what is lent, and the ledgers: one hostile call.
 #[derive(Clone, Debug)]
 pub struct Hostile {
     pub family: Family,
+    pub sample: u32,
     pub lengths: Lengths,
-    pub ledger: Ledger,
+    pub books: Books,
 }
 
 impl Hostile {
@@ -37,9 +43,13 @@ pub fn noise(rng: &mut Rng) -> Hostile {
     let strands = [(); 2].map(|()| rng.chance(90).then(|| strand(rng)));
     let family = Family { records, words, options: options(rng), strands, room: [0; 3] };
     let lengths = if rng.chance(80) { ROOM } else { ROOM.map(|least| near(rng, least)) };
-    let ledger =
-        if rng.chance(80) { small_ledger(rng) } else { Ledger([(); 20].map(|()| count(rng))) };
-    Hostile { family, lengths, ledger }.settle()
+    let ledger = |rng: &mut Rng| match rng.chance(80) {
+        true => small_ledger(rng),
+        false => Ledger([(); 20].map(|()| count(rng))),
+    };
+    let sample = sample(rng);
+    let books = books(rng, sample, ledger);
+    Hostile { family, sample, lengths, books }.settle()
 }
 
 /// Mostly few, otherwise one of these.
@@ -152,28 +162,13 @@ fn stretch(rng: &mut Rng, strand: &mut Strand) {
     }
 }
 
-fn small_ledger(rng: &mut Rng) -> Ledger {
-    Ledger([(); 20].map(|()| rng.below(1_000) as u64))
-}
-
-/// One count of a ledger, often at a limit.
-pub fn count(rng: &mut Rng) -> u64 {
-    let any = rng.draw();
-    let small = rng.below(1_000) as u64;
-    let limits = [1 << 28, (1 << 28) - 1, (1 << 28) + 1, 1 << 41, (1 << 41) - 1, (1 << 41) + 1];
-    match rng.below(24) {
-        0 => any,
-        1 => u64::MAX,
-        2..8 => rng.pick(&limits),
-        _ => small,
-    }
-}
-
 /// A valid family with one thing broken, or with nothing broken where the break hits nothing.
 pub fn broken(rng: &mut Rng, family: Family) -> Hostile {
-    let mut hostile = Hostile { family, lengths: ROOM, ledger: small_ledger(rng) };
-    let Hostile { family, lengths, ledger } = &mut hostile;
-    match rng.below(12) {
+    let sample = sample(rng);
+    let books = books(rng, sample, small_ledger);
+    let mut hostile = Hostile { family, sample, lengths: ROOM, books };
+    let Hostile { family, lengths, books, .. } = &mut hostile;
+    match rng.below(14) {
         0..4 => break_record(rng, family),
         4 => break_word(rng, family),
         5 => family.options = options(rng),
@@ -194,7 +189,15 @@ pub fn broken(rng: &mut Rng, family: Family) -> Hostile {
             let column = rng.below(15);
             lengths[column] = near(rng, ROOM[column]);
         }
-        _ => ledger.0[rng.below(20)] = count(rng),
+        11 => break_ledger(rng, &mut books.run),
+        own => {
+            if let Some(ledger) = books.samples.get_mut(sample as usize) {
+                break_ledger(rng, ledger);
+            }
+            if own == 13 {
+                break_ledger(rng, &mut books.run);
+            }
+        }
     }
     hostile.settle()
 }

@@ -1,15 +1,26 @@
-//! Families as text, in the form of the customer's `vectors/FORMAT.md`: calls that share a ledger, and their answers.
+//! Families as text, in the form of the customer's `vectors/FORMAT.md`: calls that share the run's and the samples' ledgers, and their
+//! answers. Where a `G` line may stand, `N SAMPLE` names the sample of the families after it, and `GS SAMPLE` with 20 counts sets
+//! its ledger; from the first `N` on each answer ends in `TS SAMPLE` with that sample's ledger.
+
+mod read;
 
 use super::Columns;
-use crate::{Ending, FamilyAnswer, Ledger, Lent, Marks, Options, Record, Refusal, Results, family};
+use crate::{
+    Ending, FamilyAnswer, Ledger, Lent, Marks, Options, Record, Refusal, Results, Samples, family,
+};
 use std::fmt::{self, Display, Formatter, Write};
-use std::str::{FromStr, Split};
+
+pub use read::read;
 
 /// What one call is asked.
 #[derive(Clone, Debug)]
 pub struct Call {
     /// In the place of the one that the call before left.
     pub ledger: Option<Ledger>,
+    /// The sample of this call and of those after it.
+    pub sample: Option<u32>,
+    /// Ledgers of samples, each in the place of the one there.
+    pub sample_ledgers: Vec<(u32, Ledger)>,
     pub records: Vec<Record>,
     pub ops: Vec<u32>,
     pub options: Options,
@@ -28,10 +39,40 @@ pub struct Buffers {
     pub marks: Vec<u64>,
 }
 
+/// What goes from call to call.
+#[derive(Clone, Debug, Default, PartialEq)]
+pub struct Books {
+    pub ledger: Ledger,
+    pub samples: Samples,
+    /// The sample named last; until then calls are for sample 0.
+    pub named: Option<u32>,
+}
+
+impl Books {
+    /// The lines before a call.
+    pub fn open(&mut self, call: &Call) {
+        self.ledger = call.ledger.unwrap_or(self.ledger);
+        self.named = call.sample.or(self.named);
+        for (sample, ledger) in &call.sample_ledgers {
+            self.samples.replace(*sample, *ledger);
+        }
+    }
+
+    /// The sample of the next call.
+    pub fn sample(&self) -> u32 {
+        self.named.unwrap_or(0)
+    }
+}
+
 impl Call {
-    pub fn ask(&self, ledger: Ledger, buffers: &mut Buffers) -> FamilyAnswer {
+    /// The answer; its ledger is in the books as well.
+    pub fn ask(&self, books: &mut Books, buffers: &mut Buffers) -> FamilyAnswer {
         let [r1, r2] = self.strands.each_ref().map(|strand| strand.as_ref().map(Columns::strand));
-        family(&self.records, &self.ops, &self.options, r1, r2, ledger, buffers.lend())
+        let (records, ops, options) = (&self.records, &self.ops, &self.options);
+        let (ledger, sample, samples) = (books.ledger, books.sample(), &mut books.samples);
+        let answer = family(records, ops, options, r1, r2, ledger, sample, samples, buffers.lend());
+        books.ledger = answer.ledger;
+        answer
     }
 
     /// Room of the wanted size, every byte of it the same.
@@ -83,22 +124,29 @@ fn put_back<T: Copy>(column: &mut [T], was: &[T], places: usize) {
 }
 
 /// The answer to a call, with what the buffers hold of it; an error where more was written than that.
-pub fn answered(call: &Call, ledger: Ledger) -> Result<(String, Ledger), String> {
+pub fn answered(call: &Call, books: &mut Books) -> Result<String, String> {
+    books.open(call);
     let before = call.buffers(0xa5);
     let mut buffers = before.clone();
-    let answer = call.ask(ledger, &mut buffers);
-    let text = Answered { answer: &answer, buffers: &buffers }.to_string();
+    let mut others = books.samples.clone();
+    let answer = call.ask(books, &mut buffers);
+    let named = books.named.and_then(|sample| Some((sample, books.samples.ledger(sample)?)));
+    let text = Answered { answer: &answer, buffers: &buffers, named }.to_string();
     buffers.restore(&before, &answer);
-    if buffers != before {
+    if let Some(own) = books.samples.ledger(books.sample()) {
+        others.replace(books.sample(), own);
+    }
+    if buffers != before || books.samples != others {
         return Err(format!("written beyond the answer of\n{call}{text}"));
     }
-    Ok((text, answer.ledger))
+    Ok(text)
 }
 
-/// An answer beside the buffers that it went into.
+/// An answer beside the buffers that it went into, and the named sample's ledger after it.
 pub struct Answered<'a> {
     pub answer: &'a FamilyAnswer,
     pub buffers: &'a Buffers,
+    pub named: Option<(u32, Ledger)>,
 }
 
 impl Display for Answered<'_> {
@@ -115,7 +163,8 @@ impl Display for Answered<'_> {
                 write_strand(f, name, &strand.first(*length))?;
             }
         }
-        line(f, "T", ledger.counts())
+        line(f, "T", ledger.counts())?;
+        self.named.iter().try_for_each(|(sample, ledger)| write_sample(f, "TS", *sample, ledger))
     }
 }
 
@@ -135,6 +184,12 @@ impl Display for Call {
     fn fmt(&self, f: &mut Formatter<'_>) -> fmt::Result {
         if let Some(ledger) = &self.ledger {
             line(f, "G", ledger.counts())?;
+        }
+        if let Some(sample) = self.sample {
+            writeln!(f, "N {sample}")?;
+        }
+        for (sample, ledger) in &self.sample_ledgers {
+            write_sample(f, "GS", *sample, ledger)?;
         }
         let o = &self.options;
         let present = self.strands.each_ref().map(|strand| u8::from(strand.is_some()));
@@ -172,6 +227,10 @@ fn or_none<N: Display>(value: Option<N>) -> String {
     value.map_or_else(|| "-".to_string(), |value| value.to_string())
 }
 
+fn write_sample(f: &mut Formatter<'_>, tag: &str, sample: u32, ledger: &Ledger) -> fmt::Result {
+    line(f, &format!("{tag} {sample}"), ledger.counts())
+}
+
 fn write_strand(f: &mut Formatter<'_>, name: &str, strand: &Columns) -> fmt::Result {
     write!(f, "{name}B")?;
     if !strand.bases.is_empty() {
@@ -192,128 +251,4 @@ fn line<N: Display>(
     f.write_str(name)?;
     values.into_iter().try_for_each(|value| write!(f, " {value}"))?;
     f.write_str("\n")
-}
-
-/// All calls of a text, or which line is not one of the form.
-pub fn read(text: &str) -> Result<Vec<Call>, String> {
-    let mut lines = Lines { lines: text.lines(), number: 0 };
-    let mut calls = Vec::new();
-    let mut ledger = None;
-    while let Some((tag, fields)) = lines.next() {
-        match tag {
-            "G" => ledger = Some(lines.read_ledger(fields)?),
-            "F" => calls.push(lines.read_family(fields, ledger.take())?),
-            _ => return Err(lines.wrong("G or F")),
-        }
-    }
-    Ok(calls)
-}
-
-struct Lines<'a> {
-    lines: std::str::Lines<'a>,
-    number: usize,
-}
-
-impl<'a> Lines<'a> {
-    /// The first word of the next line, and the others.
-    fn next(&mut self) -> Option<(&'a str, Split<'a, char>)> {
-        self.number += 1;
-        let mut words = self.lines.next()?.split(' ');
-        Some((words.next()?, words))
-    }
-
-    fn wrong(&self, expected: &str) -> String {
-        format!("line {}: {expected} expected", self.number)
-    }
-
-    fn tagged(&mut self, tag: &str) -> Result<Split<'a, char>, String> {
-        let line = self.next().filter(|(found, _)| *found == tag);
-        line.map(|(_, words)| words).ok_or_else(|| self.wrong(tag))
-    }
-
-    fn numbers<N: FromStr>(&self, words: Split<'a, char>) -> Result<Vec<N>, String> {
-        words.map(|word| word.parse().map_err(|_| self.wrong("numbers"))).collect()
-    }
-
-    fn one<N: FromStr>(&self, words: &mut Split<'a, char>) -> Result<N, String> {
-        words.next().and_then(|word| word.parse().ok()).ok_or_else(|| self.wrong("a number"))
-    }
-
-    fn flag(&self, words: &mut Split<'a, char>) -> Result<bool, String> {
-        Ok(self.one::<u8>(words)? == 1)
-    }
-
-    fn optional<N: FromStr>(&self, words: &mut Split<'a, char>) -> Result<Option<N>, String> {
-        let word = words.next().ok_or_else(|| self.wrong("a number or -"))?;
-        if word == "-" {
-            return Ok(None);
-        }
-        word.parse().map(Some).map_err(|_| self.wrong("a number or -"))
-    }
-
-    fn read_ledger(&self, words: Split<'a, char>) -> Result<Ledger, String> {
-        let counts: Result<[u64; 20], _> = self.numbers(words)?.try_into();
-        counts.map(Ledger::from).map_err(|_| self.wrong("20 counts"))
-    }
-
-    fn read_family(
-        &mut self,
-        mut head: Split<'a, char>,
-        ledger: Option<Ledger>,
-    ) -> Result<Call, String> {
-        let words = &mut head;
-        let [records, ops]: [usize; 2] = [self.one(words)?, self.one(words)?];
-        let options = self.read_options(words)?;
-        let present = [self.flag(words)?, self.flag(words)?];
-        let places = [self.one(words)?, self.one(words)?, self.one(words)?];
-        let records: Result<Vec<Record>, _> = (0..records).map(|_| self.read_record()).collect();
-        let records = records?;
-        let line = self.tagged("O")?;
-        let found: Vec<u32> = self.numbers(line)?;
-        if found.len() != ops {
-            return Err(self.wrong("as many words as announced"));
-        }
-        let r1 = present[0].then(|| self.read_strand()).transpose()?;
-        let r2 = present[1].then(|| self.read_strand()).transpose()?;
-        Ok(Call { ledger, records, ops: found, options, strands: [r1, r2], places })
-    }
-
-    fn read_options(&self, words: &mut Split<'a, char>) -> Result<Options, String> {
-        Ok(Options {
-            min_reads_per_strand: self.one(words)?,
-            max_reads_per_strand: self.optional(words)?,
-            min_duplex_length: self.one(words)?,
-            legacy_overlap_window: self.flag(words)?,
-            outer_bases_length: self.one(words)?,
-            outer_bases_qual: self.optional(words)?,
-            single_strand_qual: self.optional(words)?,
-            max_duplex_disagreements: self.one(words)?,
-            max_duplex_disagreement_rate: f64::from_bits(self.one(words)?),
-        })
-    }
-
-    fn read_record(&mut self) -> Result<Record, String> {
-        let mut line = self.tagged("R")?;
-        let words = &mut line;
-        Ok(Record {
-            flags: self.one(words)?,
-            name: self.one(words)?,
-            verdict: self.flag(words)?,
-            rank: self.one(words)?,
-            clipped: self.one(words)?,
-            position: self.one(words)?,
-            start: self.one(words)?,
-            count: self.one(words)?,
-        })
-    }
-
-    fn read_strand(&mut self) -> Result<Columns, String> {
-        let bases = self.tagged("B")?.next().unwrap_or_default().as_bytes().to_vec();
-        let line = self.tagged("Q")?;
-        let quals = self.numbers(line)?;
-        let line = self.tagged("D")?;
-        let depths = self.numbers(line)?;
-        let line = self.tagged("E")?;
-        Ok(Columns { bases, quals, depths, errors: self.numbers(line)? })
-    }
 }

@@ -40,6 +40,11 @@ fn a_c_program_gets_every_ending() {
 }
 
 #[test]
+fn a_c_program_writes_a_sheet() {
+    runs("sheet");
+}
+
+#[test]
 fn a_c_program_takes_turns() {
     runs("dispatch");
 }
@@ -66,6 +71,8 @@ record 4 rejected for 4
 record 5 rejected for 5, not marked
 record 6 rejected for 1
 3 of 7 records filtered, 0 of 5 duplex bases disagree: 0 millionths
+SAMPLE FAMILIES RECORDS FILTERED CALLED BASES DUPLEX DIFFER PPM
+7 1 7 3 1 15 5 0 0
 ";
     assert_eq!(String::from_utf8_lossy(&output.stdout), expected);
 }

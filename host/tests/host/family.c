@@ -23,6 +23,8 @@ static uint32_t listed[LISTED];
 static uint8_t reasons[LISTED];
 static uint64_t marks[MARKS];
 static struct codec_ffi_ledger ledger;
+static struct codec_ffi_samples samples;
+static uint32_t sample = 95;
 
 /* An absent R1 lends columns that no present strand may have; they are not read. */
 static struct codec_ffi_family_answer family(size_t records, uint64_t min_duplex_length, bool has_r1, size_t marks_len) {
@@ -38,7 +40,7 @@ static struct codec_ffi_family_answer family(size_t records, uint64_t min_duplex
         f1, records, ops, 1, options,
         has_r1, r1_bases, r1_len, quals, 10, depths, 10, errors, 10,
         true, bases, 10, quals, 10, depths, 10, errors, 10,
-        ledger,
+        ledger, sample, &samples,
         d.bases, POSITIONS, d.quals, POSITIONS, d.depths, POSITIONS, d.errors, POSITIONS,
         s1.bases, POSITIONS, s1.quals, POSITIONS, s1.depths, POSITIONS, s1.errors, POSITIONS,
         s2.bases, POSITIONS, s2.quals, POSITIONS, s2.depths, POSITIONS, s2.errors, POSITIONS,
@@ -68,10 +70,14 @@ int main(void) {
     if (memcmp(s1.bases, "ACGTACGTACnnnnn", 16) || memcmp(s2.bases, "nnnnnGTACGTACGT", 16)) return 8;
     if (memcmp(d.bases, "ACGTANNNNNTACGT", 16) || d.quals[4] != 30 || d.depths[5] != 4 || d.errors[5] != 2) return 9;
     if (ledger.families != 4 || ledger.records != 7 || ledger.used != 2 || ledger.no_strand != 2) return 10;
+    if (memcmp(&samples.ledgers[95], &ledger, sizeof ledger)) return 11;
+    sample = 96;
+    struct codec_ffi_samples before = samples;
+    if (!is(family(2, UINT64_MAX, true, MARKS), CODEC_FFI_FAMILY_REFUSED, 20, 0, 0) || memcmp(&before, &samples, sizeof samples)) return 12;
     struct codec_ffi_rates_answer rates = codec_ffi_rates(ledger);
-    if (rates.kind != CODEC_FFI_RATES_FIGURES || rates.filtered != 3 || rates.rate != 1.0 || rates.millionths != 1000000) return 11;
+    if (rates.kind != CODEC_FFI_RATES_FIGURES || rates.filtered != 3 || rates.rate != 1.0 || rates.millionths != 1000000) return 13;
     ledger.families = UINT64_MAX;
     rates = codec_ffi_rates(ledger);
-    if (rates.kind != CODEC_FFI_RATES_REFUSED || rates.number != 10 || rates.with != 0 || rates.filtered != 0) return 12;
+    if (rates.kind != CODEC_FFI_RATES_REFUSED || rates.number != 10 || rates.with != 0 || rates.filtered != 0) return 14;
     return 0;
 }

@@ -4,7 +4,7 @@ use crate::family_call::{R1, R2, REVERSE, after, asked, ending, f1, f2, pairs, r
 use Ending::{Called, Empty, NoStrand, Rejected};
 use codec_host::text::Columns;
 use codec_host::text::family::Call;
-use codec_host::{Ending, Ledger, MAX_RECORDS, Options, Reason, Room, Strand, family};
+use codec_host::{Ending, Ledger, MAX_RECORDS, Options, Reason, Room, Samples, Strand, family};
 
 /// The list, and the marked records.
 fn rejects(call: &Call) -> (Vec<(u32, u8)>, Vec<usize>) {
@@ -235,10 +235,13 @@ fn a_ledger_goes_from_call_to_call() {
 fn room_has_what_a_call_needs() {
     let call = pairs(2);
     let (expected, buffers) = asked(&call);
-    let mut room = Room::new();
+    let (mut room, mut samples) = (Room::new(), Samples::new());
     let [r1, r2] = call.strands.each_ref().map(|strand| strand.as_ref().map(Columns::strand));
-    let answer =
-        family(&call.records, &call.ops, &call.options, r1, r2, Ledger::default(), room.lend());
+    let mut ask = |options: &Options, ledger: Ledger, room: &mut Room| {
+        let (records, ops, samples) = (&call.records, &call.ops, &mut samples);
+        family(records, ops, options, r1, r2, ledger, 17, samples, room.lend())
+    };
+    let answer = ask(&call.options, Ledger::default(), &mut room);
     assert_eq!(answer, expected);
     let own = |s: Strand<'_>| Columns {
         bases: s.bases.to_vec(),
@@ -250,7 +253,8 @@ fn room_has_what_a_call_needs() {
     assert_eq!(found, buffers.strands.map(|strand| strand.first(15)));
     assert_eq!((room.rejects(answer.listed).count(), room.marks()), (0, &[0; 8]));
     let options = Options { min_duplex_length: 6, ..call.options };
-    let answer = family(&call.records, &call.ops, &options, r1, r2, answer.ledger, room.lend());
+    let answer = ask(&options, answer.ledger, &mut room);
+    assert_eq!(samples.ledger(17), Some(answer.ledger));
     let rejects: Vec<_> = room.rejects(answer.listed).collect();
     assert_eq!(rejects, (0..4).map(|r| (r, Reason::InsufficientOverlap)).collect::<Vec<_>>());
     assert!(room.is_marked(3) && !room.is_marked(4) && !room.is_marked(9_999));

@@ -1,7 +1,7 @@
 //! Family calls into room of any size, with all of it looked at after each.
 
 use codec_host::text::Columns;
-use codec_host::text::family::{Buffers, Call};
+use codec_host::text::family::{Books, Buffers, Call};
 use codec_host::{Ending, FamilyAnswer, Ledger, Options, Record, Refusal};
 
 pub const R1: u16 = 1 + 64;
@@ -30,6 +30,8 @@ pub fn pairs(names: u32) -> Call {
     let pair = |name| [record(R1, name, 100), record(R2 + REVERSE, name, 105)];
     Call {
         ledger: None,
+        sample: None,
+        sample_ledgers: Vec::new(),
         records: (0..names).flat_map(pair).collect(),
         ops: OPS.to_vec(),
         options: Options { outer_bases_length: 0, ..Options::default() },
@@ -51,15 +53,28 @@ pub fn f2() -> Call {
 
 /// The answer behind this ledger; outside the answer every place must be what it was.
 pub fn after(ledger: Ledger, call: &Call) -> (FamilyAnswer, Buffers) {
+    asked_in(&mut Books { ledger, named: Some(17), ..Books::default() }, call)
+}
+
+/// The answer in these books, which go on; the sample must gain what the run gains, and nothing else may change.
+pub fn asked_in(books: &mut Books, call: &Call) -> (FamilyAnswer, Buffers) {
     let before = call.buffers(0x5a);
     let mut buffers = before.clone();
-    let answer = call.ask(ledger, &mut buffers);
+    let given = books.clone();
+    let answer = call.ask(books, &mut buffers);
     let mut rest = buffers.clone();
     rest.restore(&before, &answer);
     assert!(rest == before, "written beyond the answer {answer:?}");
     if matches!(answer.ending, Ending::Refused(_)) {
-        assert_eq!((answer.listed, answer.ledger), (0, ledger));
+        assert_eq!((answer.listed, &*books), (0, &given));
+        return (answer, buffers);
     }
+    let mut samples = given.samples;
+    let mut own = samples.ledger(given.named.unwrap_or(0)).expect("a sample of the run").counts();
+    let gains = answer.ledger.counts().into_iter().zip(given.ledger.counts());
+    own.iter_mut().zip(gains).for_each(|(count, (after, before))| *count += after - before);
+    samples.replace(given.named.unwrap_or(0), own.into());
+    assert_eq!((books.ledger, &books.samples), (answer.ledger, &samples));
     (answer, buffers)
 }
 

@@ -4,7 +4,7 @@ use crate::family_call::{
     R1, R2, REVERSE, after, asked, ending, f1, is_refused, pairs, record, refused, strand,
 };
 use codec_host::text::Columns;
-use codec_host::text::family::{Buffers, Call};
+use codec_host::text::family::{Books, Buffers, Call};
 use codec_host::{Ending, Ledger, Reason, Record};
 
 fn f1_with(change: impl Fn(&mut Call)) -> Call {
@@ -185,7 +185,7 @@ fn refusal_9_each_lent_column() {
                 let mut before = call.buffers(0x77);
                 resized(&mut before, column, by);
                 let mut buffers = before.clone();
-                let answer = call.ask(Ledger::default(), &mut buffers);
+                let answer = call.ask(&mut Books::default(), &mut buffers);
                 let ending = if by < 0 { refused(9, 0) } else { expected.ending };
                 assert_eq!(answer.ending, ending, "column {column} by {by}");
                 buffers.restore(&before, &answer);

@@ -13,5 +13,7 @@ mod limits;
 mod partner;
 mod positions;
 mod rates;
+mod samples;
 mod selection;
+mod sheet;
 mod text_form;

@@ -6,25 +6,46 @@ use crate::trace::{Columns, Selected, Trace};
 pub struct Seen {
     pub trace: Trace,
     pub marks: Vec<bool>,
+    /// The caller's counters after the call.
     pub stats: CodecConsensusStats,
     pub result: std::result::Result<usize, CodecConsensusError>,
 }
 
-/// One family through the original's own front door, reject tracking on.
+/// A caller that goes on from family to family through its own front door, reject tracking on; its counters go with it.
+pub struct LastingCaller(CodecConsensusCaller);
+
+impl LastingCaller {
+    pub fn new(stats: CodecConsensusStats) -> Self {
+        let caller = CodecConsensusCaller::new_with_rejects_tracking;
+        let mut caller = caller(String::new(), String::new(), CodecConsensusOptions::default(), true);
+        caller.stats = stats;
+        Self(caller)
+    }
+
+    /// One family under these options.
+    pub fn call(
+        &mut self,
+        options: CodecConsensusOptions,
+        strands: [Option<Columns>; 2],
+        records: &[RawRecord],
+    ) -> Seen {
+        let caller = &mut self.0;
+        caller.options = options;
+        caller.ss_caller.strands = strands.into();
+        let result = caller.consensus_reads_raw(records).map(|output| output.count);
+        caller.clear_rejected_reads();
+        let (marks, stats) = (caller.reject_mask.clone(), caller.stats.clone());
+        Seen { trace: crate::trace::take(), marks, stats, result }
+    }
+}
+
+/// One family through a caller of its own.
 pub fn call_family(
     options: CodecConsensusOptions,
     strands: [Option<Columns>; 2],
     records: &[RawRecord],
 ) -> Seen {
-    let mut caller = CodecConsensusCaller::new_with_rejects_tracking(
-        String::new(),
-        String::new(),
-        options,
-        true,
-    );
-    caller.ss_caller.strands = strands.into();
-    let result = caller.consensus_reads_raw(records).map(|output| output.count);
-    Seen { trace: crate::trace::take(), marks: caller.reject_mask, stats: caller.stats, result }
+    LastingCaller::new(CodecConsensusStats::default()).call(options, strands, records)
 }
 
 /// A caller made once, reject tracking on, so that a family's call can be repeated with nothing around it.

@@ -2,6 +2,7 @@
 
 mod alignment;
 mod faults;
+mod named;
 mod options;
 mod positions;
 mod records;
@@ -11,6 +12,7 @@ mod strands;
 use crate::model::{Call, Ledger};
 use rng::Rng;
 
+pub use named::Named;
 pub use positions::columns;
 
 /// Calls that share one ledger, as a list of `FORMAT.md` does.
@@ -48,6 +50,6 @@ impl Iterator for Calls {
             (false, false) => None,
         };
         self.spoiled = extreme;
-        Some(Call { ledger, family })
+        Some(Call { ledger, ..Call::new(family) })
     }
 }

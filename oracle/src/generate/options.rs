@@ -1,7 +1,7 @@
 //! Options around what the family makes of them: one below, at, and one above.
 
 use super::rng::Rng;
-use crate::model::{Family, Ledger, Selection};
+use crate::model::{Books, Family, Ledger, Selection};
 use crate::plain::Reader;
 
 /// Minimum reads, cap, window and its minimum length.
@@ -53,9 +53,9 @@ pub fn choose_limits(rng: &mut Rng, family: &mut Family) {
     options.outer_quality = if rng.chance(40) { Some(rng.pick(&[0, 2, 3, 20, 255])) } else { None };
     let single = if rng.chance(40) { Some(rng.pick(&[0, 2, 4, 20, 255])) } else { None };
     options.single_strand_quality = single;
-    let Ok(answer) = Reader(None).family_call(family, &Ledger::default()) else { return };
-    let both = answer.ledger.0[Ledger::DUPLEX_BASES];
-    let unequal = answer.ledger.0[Ledger::DISAGREEMENTS];
+    let Ok(answer) = Reader(None).family_call(family, 0, &Books::default()) else { return };
+    let both = answer.books.run.0[Ledger::DUPLEX_BASES];
+    let unequal = answer.books.run.0[Ledger::DISAGREEMENTS];
     let options = &mut family.options;
     options.max_disagreements = match rng.weighted(&[62, 18, 4, 7, 2, 7]) {
         0 => u64::MAX,

@@ -29,18 +29,18 @@ impl Reader {
         Ok(Rates { filtered, rate: unequal as f64 / both as f64, millionths })
     }
 
-    pub(super) fn ledger_after(
+    /// The twenty counts of one call.
+    pub(super) fn counts(
         &self,
-        before: &Ledger,
         fates: &Fates,
         ending: &Ending,
         course: &Course,
         tally: [u64; 2],
     ) -> Ledger {
-        let mut after = *before;
-        let counts = &mut after.0;
+        let mut added = Ledger::default();
+        let counts = &mut added.0;
         if *ending == Ending::Empty && self.misreads(Wrong::EmptyUncounted) {
-            return after;
+            return added;
         }
         counts[Ledger::FAMILIES] += 1;
         counts[Ledger::RECORDS] += fates.len() as u64;
@@ -70,7 +70,7 @@ impl Reader {
             let by_records = self.misreads(Wrong::RejectedByRecords);
             counts[Ledger::REJECTED_FAMILIES] += if by_records { records as u64 } else { 1 };
         }
-        after
+        added
     }
 
     fn place(&self, fate: Fate) -> usize {

@@ -9,10 +9,11 @@ pub mod ledger;
 mod pairs;
 pub mod position;
 mod refusals;
+mod samples;
 mod window;
 pub mod wrong;
 
-use crate::model::{Answer, Ending, Family, Ledger, Refusal, Selection, Strand, marks_of};
+use crate::model::{Answer, Books, Ending, Family, Refusal, Selection, Strand, marks_of};
 use window::Chosen;
 use wrong::Wrong;
 
@@ -53,8 +54,13 @@ impl Reader {
         self.0 == Some(wrong)
     }
 
-    pub fn family_call(&self, family: &Family, ledger: &Ledger) -> Result<Answer, Refusal> {
-        if let Some(refusal) = self.refusal(family, ledger) {
+    pub fn family_call(
+        &self,
+        family: &Family,
+        sample: u32,
+        books: &Books,
+    ) -> Result<Answer, Refusal> {
+        if let Some(refusal) = self.refusal(family, sample, books) {
             return Err(refusal);
         }
         let mut fates = vec![None; family.records.len()];
@@ -73,9 +79,9 @@ impl Reader {
                 Ending::Called(_) | Ending::Empty => Fate::Used,
             },
         );
-        let ledger = self.ledger_after(ledger, &fates, &ending, &course, tally);
+        let books = self.books_after(books, sample, &self.counts(&fates, &ending, &course, tally));
         let (list, marks) = self.list_and_marks(&fates);
-        Ok(Answer { ending, list, marks, ledger })
+        Ok(Answer { ending, list, marks, books })
     }
 
     /// Fates that a wrong reading gives anew at the end.

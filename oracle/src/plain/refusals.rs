@@ -1,18 +1,26 @@
-//! The table of refusals, 1 to 11.
+//! The table of refusals, 1 to 11, and 20 before them.
 
 use super::Reader;
 use super::cigar::{entry, read_bases, reference_bases};
 use super::wrong::Wrong;
-use crate::model::{Family, Ledger, Record, Refusal, Strand};
+use crate::model::{Books, Family, Ledger, Record, Refusal, Strand};
 
 const FAMILIES: u64 = 268_435_456;
 const COUNTS: u64 = 2_199_023_255_552;
 const PLACE: u64 = 536_870_911;
 
 impl Reader {
-    pub(super) fn refusal(&self, family: &Family, ledger: &Ledger) -> Option<Refusal> {
-        if let Some(refusal) = self.refusal_of_selection(family) {
-            return Some(refusal);
+    pub(super) fn refusal(&self, family: &Family, sample: u32, books: &Books) -> Option<Refusal> {
+        let of_sample = self.refusal_of_sample(sample);
+        if of_sample.is_some() && !self.misreads(Wrong::SampleAfterOne) {
+            return of_sample;
+        }
+        let of_selection = self.refusal_of_selection(family);
+        if of_selection.is_some_and(|refusal| of_sample.is_none() || refusal.0 == 1) {
+            return of_selection;
+        }
+        if of_sample.is_some() {
+            return of_sample;
         }
         if let Some(refusal) = self.refusal_of_strands(family) {
             return Some(refusal);
@@ -22,7 +30,7 @@ impl Reader {
         {
             return Some(refusal);
         }
-        self.refusal_of_ledger(ledger)
+        self.refusal_of_books(sample, books)
     }
 
     pub(super) fn refusal_of_selection(&self, family: &Family) -> Option<Refusal> {

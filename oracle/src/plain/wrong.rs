@@ -1,4 +1,4 @@
-//! Wrong readings of document 01 and of request 07, each a small slip that one could make in good faith.
+//! Wrong readings of document 01 and of requests 01 and 07, each a small slip that one could make in good faith.
 
 macro_rules! readings {
     ($($name:ident: $slip:literal,)*) => {
@@ -141,4 +141,11 @@ readings! {
     CounterAtLimit: "a counter at 2^41 is refused",
     FullIsTen: "families at 2^28 is refusal 10",
     ElevenFirst: "refusal 11 before 10",
+    SampleAfterOne: "refusal 20 tested after 1",
+    SampleAtLimit: "sample 95 is refused",
+    LedgerByLedger: "10 and 11 of the run before both of the sample",
+    SampleUnread: "10 and 11 asked of the run alone",
+    AllSamplesRead: "10 and 11 asked of every sample",
+    RunOnly: "counted for the run alone",
+    SampleZero: "counted for sample 0, whichever is named",
 }

@@ -1,6 +1,6 @@
 //! Reads lists of family calls.
 
-use crate::model::{Call, Family, Ledger, Options, Record, Strand};
+use crate::model::{Call, Family, Ledger, Options, Record, SAMPLES, Strand};
 use std::str::FromStr;
 
 pub struct Lines<'a> {
@@ -69,16 +69,30 @@ pub fn calls(text: &str) -> Vec<Call> {
     let mut lines = Lines::new(text);
     let mut calls = Vec::new();
     while !lines.at_end() {
-        let mut ledger = None;
-        while lines.next_is("G") {
-            let figures = lines.line("G").rest::<u64>();
-            ledger = Some(Ledger(figures.try_into().expect("twenty figures")));
+        let (mut ledger, mut sample, mut sample_ledgers) = (None, None, Vec::new());
+        loop {
+            if lines.next_is("G") {
+                ledger = Some(figures(lines.line("G")));
+            } else if lines.next_is("N") {
+                sample = Some(lines.line("N").number());
+            } else if lines.next_is("GS") {
+                let mut line = lines.line("GS");
+                let sample = line.number();
+                assert!(sample < SAMPLES, "sample {sample} has no ledger");
+                sample_ledgers.push((sample, figures(line)));
+            } else {
+                break;
+            }
         }
         if !lines.at_end() {
-            calls.push(Call { ledger, family: family(&mut lines) });
+            calls.push(Call { ledger, sample, sample_ledgers, family: family(&mut lines) });
         }
     }
     calls
+}
+
+fn figures(line: Fields<'_>) -> Ledger {
+    Ledger(line.rest::<u64>().try_into().expect("twenty figures"))
 }
 
 fn family(lines: &mut Lines<'_>) -> Family {

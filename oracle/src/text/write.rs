@@ -28,6 +28,12 @@ pub fn call(out: &mut String, call: &Call) {
     if let Some(ledger) = &call.ledger {
         numbers(out, "G", ledger.0);
     }
+    if let Some(sample) = call.sample {
+        numbers(out, "N", [sample]);
+    }
+    for (sample, ledger) in &call.sample_ledgers {
+        numbers(out, &format!("GS {sample}"), ledger.0);
+    }
     head(out, &call.family);
     for r in &call.family.records {
         let verdict = u8::from(r.verdict);
@@ -78,12 +84,16 @@ fn marks(out: &mut String, tag: &str, words: &Marks) {
     numbers(out, tag, words);
 }
 
-/// A refused call leaves the ledger given.
-pub fn answer(out: &mut String, answer: &Result<Answer, Refusal>, given: &Ledger) {
+/// The answer, the run's ledger after it, and that of the sample where one is named.
+pub fn answer(
+    out: &mut String,
+    answer: &Result<Answer, Refusal>,
+    run: &Ledger,
+    named: Option<(u32, Ledger)>,
+) {
     match answer {
         Err(Refusal(number, with)) => {
             numbers(out, &format!("A refused {number} {with}"), [0u8; 0]);
-            numbers(out, "T", given.0);
         }
         Ok(answer) => {
             out.push_str(&match &answer.ending {
@@ -103,8 +113,11 @@ pub fn answer(out: &mut String, answer: &Result<Answer, Refusal>, given: &Ledger
                     strand(out, prefix, columns);
                 }
             }
-            numbers(out, "T", answer.ledger.0);
         }
+    }
+    numbers(out, "T", run.0);
+    if let Some((sample, ledger)) = named {
+        numbers(out, &format!("TS {sample}"), ledger.0);
     }
 }
 

@@ -6,8 +6,8 @@ use beside::original_call;
 use beside::rng::Rng;
 use codec_host::text::{Columns, Pair};
 use codec_host::{
-    Ending, Ledger, Limits, MAX_POSITIONS, MAX_RECORDS, Options, Record, Room, Selection, combine,
-    family, select,
+    Ending, Ledger, Limits, MAX_POSITIONS, MAX_RECORDS, Options, Record, Room, SAMPLES, SHEET_ROOM,
+    Samples, Selection, combine, family, select, sheet,
 };
 use fgumi_raw_bam::hash::forget_ranks;
 use fgumi_raw_bam::{Fields, RawRecord};
@@ -49,6 +49,7 @@ fn main() {
     );
     families.iter().for_each(|families| report_selection(families));
     report_rates(&mut rng);
+    report_sheet(&mut rng);
 }
 
 /// A family in the terms of both.
@@ -119,10 +120,13 @@ fn strands_of(rng: &mut Rng) -> [Columns; 2] {
 fn report_family(families: &[Family]) {
     let options = Options::default();
     let mut ledger = Ledger::default();
+    let (mut samples, mut sample) = (Samples::new(), 0);
     let mut room = Room::new();
     let mut ask = |given: &Family| {
         let [r1, r2] = given.strands.each_ref().map(|strand| Some(strand.strand()));
-        let answer = family(&given.records, &given.ops, &options, r1, r2, ledger, room.lend());
+        let (records, ops, lent) = (&given.records, &given.ops, room.lend());
+        sample = (sample + 1) % SAMPLES as u32;
+        let answer = family(records, ops, &options, r1, r2, ledger, sample, &mut samples, lent);
         ledger = answer.ledger;
         black_box((answer.ending, &room));
         answer.ending
@@ -175,6 +179,20 @@ fn report_rates(rng: &mut Rng) {
     let ask = |ledger: &Ledger| _ = black_box(ledger.rates());
     let times = (0..ROUNDS).map(|_| per_call(&ledgers, ask));
     println!("{:<36}{:>10.0}", "ledger's rates", median(times.collect()));
+}
+
+/// Sheets of a whole run: all samples with families, counts of up to 41 bits.
+fn report_sheet(rng: &mut Rng) {
+    let mut samples = |_| {
+        let count = |at: usize| if at.is_multiple_of(20) { 1 } else { rng.draw() >> 23 };
+        Samples::from(std::array::from_fn(count))
+    };
+    let all: Vec<Samples> = (0..PAIRS).map(&mut samples).collect();
+    let mut buffer = [0; SHEET_ROOM];
+    assert!(all.iter().all(|samples| sheet(samples, &mut buffer).is_ok()));
+    let mut ask = |samples: &Samples| _ = black_box((sheet(samples, &mut buffer), &buffer));
+    let times = (0..FAMILY_ROUNDS).map(|_| per_call(&all, &mut ask));
+    println!("{:<36}{:>10.0}", "sheet of 96 samples", median(times.collect()));
 }
 
 /// Letters and qualities as sequenced.

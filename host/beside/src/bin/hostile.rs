@@ -1,7 +1,7 @@
 //! Hands the exported calls noise and broken families, and looks at every answer and every place; then the ledger's rates, pairs of
 //! counts beside 128-bit arithmetic: hostile [SEED [CALLS [PAIRS]]]
 
-use beside::guarded::{Room, Strand};
+use beside::guarded::{Guarded, Room, Strand};
 use beside::held::{self, Hosted};
 use beside::noise::{self, Hostile};
 use beside::rng::Rng;
@@ -53,26 +53,42 @@ fn ask_family(hostile: &Hostile, room: &RefCell<Room>, tally: &mut Tally) -> Res
 
 /// The hostile call cut down while the family call still differs, as text, with what differs.
 fn smallest(hostile: &Hostile, room: &RefCell<Room>) -> String {
-    let with = |call: &model::Call| Hostile {
-        family: call.family.clone(),
-        ledger: call.ledger.unwrap_or_default(),
-        lengths: hostile.lengths,
+    let with = |call: &model::Call| {
+        let mut books = model::Books { run: call.ledger.unwrap_or_default(), ..Default::default() };
+        for (sample, ledger) in &call.sample_ledgers {
+            books.samples[*sample as usize] = *ledger;
+        }
+        let (family, lengths) = (call.family.clone(), hostile.lengths);
+        Hostile { family, sample: call.sample.unwrap_or(0), lengths, books }
     };
     let wrong = |call: &model::Call| {
         let hostile = with(call).settle();
         held::family_call(&hostile, &mut room.borrow_mut()).err()
     };
-    let call = model::Call { ledger: Some(hostile.ledger), family: hostile.family.clone() };
+    let call = model::Call {
+        ledger: Some(hostile.books.run),
+        sample: Some(hostile.sample),
+        sample_ledgers: set(hostile),
+        family: hostile.family.clone(),
+    };
     let small = shrink::smallest(&call, 20_000, |call| wrong(call).is_some());
     let difference = wrong(&small).unwrap_or_default();
     shown(&with(&small), &difference)
 }
 
+/// The samples whose ledgers are not fresh.
+fn set(hostile: &Hostile) -> Vec<(u32, model::Ledger)> {
+    let ledgers = (0..).zip(hostile.books.samples.iter().copied());
+    ledgers.filter(|(_, ledger)| *ledger != model::Ledger::default()).collect()
+}
+
 fn shown(hostile: &Hostile, difference: &str) -> String {
     let Hosted { records, ops, options, strands } = Hosted::new(&hostile.family);
     let places = hostile.family.room.map(|places| places as usize);
-    let ledger = Some(Ledger::from(hostile.ledger.0));
-    let call = Call { ledger, records, ops, options, strands, places };
+    let ledger = Some(Ledger::from(hostile.books.run.0));
+    let sample_ledgers = set(hostile).into_iter().map(|(at, ledger)| (at, ledger.0.into()));
+    let (sample, sample_ledgers) = (Some(hostile.sample), sample_ledgers.collect());
+    let call = Call { ledger, sample, sample_ledgers, records, ops, options, strands, places };
     format!("{call}lent: {:?}\n{difference}", hostile.lengths)
 }
 
@@ -116,6 +132,17 @@ fn ask_rates(rng: &mut Rng, tally: &mut Tally) -> Result<(), String> {
     Ok(())
 }
 
+fn ask_sheet(rng: &mut Rng, buffer: &mut Guarded<u8>, tally: &mut Tally) -> Result<(), String> {
+    let (ledgers, room) = (noise::ledgers(rng), noise::sheet_room(rng));
+    let answer = held::sheets(&ledgers, room, buffer)
+        .map_err(|e| format!("{ledgers:?}\nlent: {room}\n{e}"))?;
+    tally.add(match answer {
+        Ok(_) => "sheet".to_string(),
+        Err(refusal) => format!("sheet refused {}", refusal.number),
+    });
+    Ok(())
+}
+
 fn ask_turns(rng: &mut Rng, tally: &mut Tally) -> Result<(), String> {
     let (lanes, lane) = noise::lanes(rng);
     let end = held::turns(lanes, lane).map_err(|e| format!("{lanes:?}\n{e}"))?;
@@ -147,6 +174,7 @@ fn run() -> Result<(), String> {
     let mut valid = Calls::new(seed).map(|call| call.family);
     let room = RefCell::new(Room::new());
     let mut results = Strand::new(9);
+    let mut buffer = Guarded::of(noise::SHEET_MOST, |cell| cell as u8);
     let mut tally = Tally::default();
     while tally.calls < calls {
         let hostile = match rng.chance(30) {
@@ -162,6 +190,9 @@ fn run() -> Result<(), String> {
         }
         if rng.chance(20) {
             ask_turns(&mut rng, &mut tally)?;
+        }
+        if rng.chance(10) {
+            ask_sheet(&mut rng, &mut buffer, &mut tally)?;
         }
     }
     let ends: Vec<String> = tally.ends.iter().map(|(end, n)| format!("{end}: {n}")).collect();

@@ -4,7 +4,7 @@ use native.Mathlib.Omega.{arith}
 use borrow.Author.Needs.{needs}
 use lib.ListN.{getD}
 use Rattle.answer_text.specs.FamilyText.{listedText, listingsText}
-use Rattle.answer_text.proofs.Lines.{Storing, storing-none, storing-more, storing-all}
+use Rattle.table_text.proofs.Storing.{Storing, storing-none, storing-more, storing-all}
 use Rattle.answer_text.proofs.family_answer.write_listings.Statement.{statement}
 use Rattle.answer_text.proofs.family_answer.write_listings.Tie as tie
 

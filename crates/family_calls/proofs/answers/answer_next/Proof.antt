@@ -1,4 +1,4 @@
--- A family that is read takes a line and counts in the ledger that it is handed.
+-- A family that is read takes a line and hands on what its call leaves.
 use mathlib.Core.Path.{_≡_, refl, sym}
 use Prim.Native.Nat.{ℕ}
 use native.Mathlib.Omega.{arith}
@@ -98,7 +98,7 @@ same-length-4 c = search needs
 returns-3 : tie.Need-returns-3
 returns-3 c = let e = c .before .before .before .before .before .before .before .before .before .before .before .before .before .before .before .before .before .before .before .before .ending2 .given .1 in
     let read = c .before .before .before .before .before .before .before .before .before .before .before .before .before .before .before .before .before .before .before .before .before .before .before .before .before .before .before .before .before .before .before .before .before .next-family .ensures in
-    ((family-advances _ _ _ _ _ _ _ _ _ e read, (rw e at read) .within .0, c .before .before .before .before .answer-family .ensures .0), λ t. rw (c .before .before .before .before .answer-family .ensures .1) (family here (sym ((rw e at read) .same))))
+    ((family-advances _ _ _ _ _ _ _ _ _ e read, (rw e at read) .within .0, c .before .before .before .before .answer-family .ensures .0), λ t. family here (sym ((rw e at read) .same)) (c .before .before .before .before .answer-family .ensures .1))
 
 same-length-5 : tie.Need-same-length-5
 same-length-5 c = search needs

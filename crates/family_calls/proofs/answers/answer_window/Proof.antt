@@ -1,4 +1,4 @@
--- The place grows at each turn, and the ledger goes from family to family.
+-- The place grows at each turn, and what is handed on goes from family to family.
 use mathlib.Core.Bool.{true}
 use mathlib.Core.Path.{_≡_, refl, _∙_}
 use Prim.Native.Nat.{_-_, _≤_}
@@ -13,11 +13,11 @@ use Rattle.family_calls.proofs.answers.answer_window.Statement.{stateme
 use Rattle.family_calls.proofs.answers.answer_window.Tie as tie
 
 abbrev Inv-loop : tie.InvT-loop
-Inv-loop text ends answering handing-over number ops₀ output₀ filled held₀ next-number₀ at₀ to₀ ops output held next-number at to =
+Inv-loop text ends answering form number ops₀ output₀ filled held₀ next-number₀ at₀ to₀ ops output held next-number at to =
     (at ≤ length text) × (to ≤ length output) × (length ops ≡ length ops₀) × (length output ≡ length output₀) × (answering ≡ true → Goes held₀ (linesFrom text 0) held (linesFrom text at))
 
 abbrev μ-loop : tie.MeasureT-loop
-μ-loop text ends answering handing-over number ops₀ output₀ filled held₀ next-number₀ at₀ to₀ ops output held next-number at to = length text - at
+μ-loop text ends answering form number ops₀ output₀ filled held₀ next-number₀ at₀ to₀ ops output held next-number at to = length text - at
 
 loop-holds : tie.Need-loop-holds Inv-loop μ-loop
 loop-holds c = (omega arith, omega arith, refl, refl, λ t. here)

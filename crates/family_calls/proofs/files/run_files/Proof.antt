@@ -5,10 +5,10 @@ use Rattle.family_calls.proofs.files.run_files.Statement.{statement}
 use Rattle.family_calls.proofs.files.run_files.Tie as tie
 
 abbrev Inv-loop : tie.InvT-loop
-Inv-loop count handing-over i₀ i = Unit {0}
+Inv-loop count form i₀ i = Unit {0}
 
 abbrev μ-loop : tie.MeasureT-loop
-μ-loop count handing-over i₀ i = count - i
+μ-loop count form i₀ i = count - i
 
 loop-holds : tie.Need-loop-holds Inv-loop μ-loop
 loop-holds c = tt

@@ -8,11 +8,11 @@ use Rattle.family_calls.proofs.passes.read_windows.Statement.{statement
 use Rattle.family_calls.proofs.passes.read_windows.Tie as tie
 
 abbrev Inv-loop : tie.InvT-loop
-Inv-loop file size answering handing-over window₀ ops₀ output₀ ledger₀ number₀ offset₀ lines-passed₀ to₀ window ops output ledger number offset lines-passed to =
+Inv-loop file size answering form window₀ ops₀ output₀ handed₀ number₀ offset₀ lines-passed₀ to₀ window ops output handed number offset lines-passed to =
     (offset ≤ size) × (lines-passed ≤ offset) × (to ≤ length output) × (length window ≡ length window₀) × (length ops ≡ length ops₀) × (length output ≡ length output₀)
 
 abbrev μ-loop : tie.MeasureT-loop
-μ-loop file size answering handing-over window₀ ops₀ output₀ ledger₀ number₀ offset₀ lines-passed₀ to₀ window ops output ledger number offset lines-passed to =
+μ-loop file size answering form window₀ ops₀ output₀ handed₀ number₀ offset₀ lines-passed₀ to₀ window ops output handed number offset lines-passed to =
     size - offset
 
 -- the number of a malformed line
@@ -27,8 +27,8 @@ onward c =
     let step = rw (c .before .before .reached2 .given .1) at (c .before .before .before .before .before .before .before .before .answer-window .ensures .0) in
     (step .0, omega (arith, simp length-take at (step .1), c .before .before .before .before .before .before .before .before .before .before .before .before .before .before .before .read-window .ensures .1))
 
-fresh-ledger-requires : tie.Need-fresh-ledger-requires Inv-loop μ-loop
-fresh-ledger-requires c κs = search needs
+fresh-handed-requires : tie.Need-fresh-handed-requires Inv-loop μ-loop
+fresh-handed-requires c κs = search needs
 
 loop-holds : tie.Need-loop-holds Inv-loop μ-loop
 loop-holds c = search needs
@@ -139,7 +139,7 @@ read-windows-spec =
     (tie.spec
     Inv-loop
     μ-loop
-    fresh-ledger-requires
+    fresh-handed-requires
     loop-holds
     read-window-requires
     same-length

@@ -2,9 +2,8 @@
 use native.Mathlib.Omega.{arith}
 use borrow.Author.Needs.{needs}
 use borrow.Author.Tests.{eq-eqb, ne-eqb}
-use Rattle.table_text.proofs.Stores.{stored-then}
+use Rattle.table_text.proofs.Stores.{none-stored, stored-then}
 use Rattle.handover_text.specs.Handover.{endedText, rejectionsText, handoverText}
-use Rattle.answer_text.proofs.Lines.{none-stored}
 use Rattle.handover_text.proofs.handover.write_handover.Statement.{statement}
 use Rattle.handover_text.proofs.handover.write_handover.Tie as tie
 

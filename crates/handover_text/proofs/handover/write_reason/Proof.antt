@@ -7,7 +7,7 @@ use native.Mathlib.Omega.{arith}
 use borrow.Author.Needs.{needs}
 use lib.ListN.{List·getD-eq-default}
 use Rattle.handover_text.specs.Handover.{reasonNames, reasonName}
-use Rattle.answer_text.proofs.Lines.{none-stored}
+use Rattle.table_text.proofs.Stores.{none-stored}
 use Rattle.handover_text.proofs.handover.write_reason.Statement.{statement}
 use Rattle.handover_text.proofs.handover.write_reason.Tie as tie
 

@@ -4,7 +4,7 @@ use native.Mathlib.Omega.{arith}
 use borrow.Author.Needs.{needs}
 use lib.ListN.{getD}
 use Rattle.handover_text.specs.Handover.{rejectedText, rejectionsText}
-use Rattle.answer_text.proofs.Lines.{Storing, storing-none, storing-more, storing-all}
+use Rattle.table_text.proofs.Storing.{Storing, storing-none, storing-more, storing-all}
 use Rattle.handover_text.proofs.handover.write_rejections.Statement.{statement}
 use Rattle.handover_text.proofs.handover.write_rejections.Tie as tie
 

@@ -3,7 +3,7 @@ use Prim.Native.Nat.{_+_, _-_, _≤_}
 use native.Mathlib.Omega.{arith}
 use borrow.Author.Needs.{needs}
 use lib.ListN.{getD}
-use Rattle.answer_text.proofs.Lines.{Storing, storing-none, storing-more, storing-all}
+use Rattle.table_text.proofs.Storing.{Storing, storing-none, storing-more, storing-all}
 use Rattle.handover_text.specs.Sheet.{reasonText, reasonsText}
 use Rattle.handover_text.proofs.sheet.write_reason_counts.Statement.{statement}
 use Rattle.handover_text.proofs.sheet.write_reason_counts.Tie as tie

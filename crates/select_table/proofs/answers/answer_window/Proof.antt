@@ -9,13 +9,13 @@ use Rattle.select_table.proofs.answers.answer_window.Statement.{stateme
 use Rattle.select_table.proofs.answers.answer_window.Tie as tie
 
 abbrev Inv-loop : tie.InvT-loop
-Inv-loop text ends answering ops₀ output₀ filled ledger at₀ to₀ ops output at to = (at ≤ length text) × (to ≤ length output) × (length ops ≡ length ops₀) × (length output ≡ length output₀)
+Inv-loop text ends answering ops₀ output₀ filled handed at₀ to₀ ops output at to = (at ≤ length text) × (to ≤ length output) × (length ops ≡ length ops₀) × (length output ≡ length output₀)
 
 abbrev μ-loop : tie.MeasureT-loop
-μ-loop text ends answering ops₀ output₀ filled ledger at₀ to₀ ops output at to = length text - at
+μ-loop text ends answering ops₀ output₀ filled handed at₀ to₀ ops output at to = length text - at
 
-fresh-ledger-requires : tie.Need-fresh-ledger-requires Inv-loop μ-loop
-fresh-ledger-requires c κs = search needs
+fresh-handed-requires : tie.Need-fresh-handed-requires Inv-loop μ-loop
+fresh-handed-requires c κs = search needs
 
 loop-holds : tie.Need-loop-holds Inv-loop μ-loop
 loop-holds c = search needs
@@ -70,7 +70,7 @@ answer-window-spec =
     (tie.spec
     Inv-loop
     μ-loop
-    fresh-ledger-requires
+    fresh-handed-requires
     loop-holds
     answer-next-requires
     enum-known-after

@@ -1,0 +1,4 @@
+pub mod Books
+pub mod Deciding
+pub mod SampledCall
+pub mod SampledFamily

@@ -1,0 +1,5 @@
+pub mod SampledConservation
+pub mod SampledExisting
+pub mod SampledNeverTen
+pub mod Summing
+pub mod Turns

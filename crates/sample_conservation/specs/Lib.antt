@@ -1,0 +1,4 @@
+pub mod SampledChain
+pub mod SampledConserved
+pub mod SampledHistory
+pub mod Sums

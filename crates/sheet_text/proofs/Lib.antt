@@ -1,0 +1,4 @@
+pub mod Accepted
+pub mod Front
+pub mod Lines
+pub mod Within
