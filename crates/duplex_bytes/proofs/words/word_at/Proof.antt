@@ -1,9 +1,9 @@
 -- The two bytes are the value's.
 use mathlib.Core.Path.{_∙_, sym}
 use borrow.Author.Needs.{needs}
-use Rattle.codec_ffi.proofs.Laws.{words-at}
-use Rattle.codec_ffi.proofs.words.word_at.Statement.{statement}
-use Rattle.codec_ffi.proofs.words.word_at.Tie as tie
+use Rattle.duplex_bytes.proofs.Laws.{words-at}
+use Rattle.duplex_bytes.proofs.words.word_at.Statement.{statement}
+use Rattle.duplex_bytes.proofs.words.word_at.Tie as tie
 
 mul-word : tie.Need-mul-word
 mul-word c = search needs

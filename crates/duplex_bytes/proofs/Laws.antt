@@ -9,7 +9,7 @@ use Rattle.lists.specs.Tabulate.{tabulate}
 use Rattle.lists.specs.Written.{written}
 use Rattle.lists.proofs.Tabulate.{length-tabulate}
 use Rattle.lists.proofs.Written.{written-more}
-use Rattle.codec_ffi.specs.Words.{words, lowFirst}
+use Rattle.duplex_bytes.specs.Words.{words, lowFirst}
 
 pub length-words : (bytes : List ℕ) → length (words bytes) ≡ length bytes / 2
 unfolding words

@@ -1,7 +1,7 @@
 -- The two words are what `word_at` ensures.
 use borrow.Author.Needs.{needs}
-use Rattle.codec_ffi.proofs.columns.position_at.Statement.{statement}
-use Rattle.codec_ffi.proofs.columns.position_at.Tie as tie
+use Rattle.duplex_bytes.proofs.columns.position_at.Statement.{statement}
+use Rattle.duplex_bytes.proofs.columns.position_at.Tie as tie
 
 shared-slice-read-t7 : tie.Need-shared-slice-read-t7
 shared-slice-read-t7 c = search needs

@@ -11,8 +11,8 @@ ghost use lib.ListN.{length};
 ghost use Rattle.lists.specs.Every.{every};
 ghost use Rattle.codec_duplex.specs.Columns.{strand, positionAt, Fitting};
 ghost use Rattle.codec_duplex.specs.Duplex.{duplex};
-ghost use Rattle.codec_ffi.specs.Bytes.{read, readDuplex, FilledBytes};
-ghost use Rattle.codec_ffi.specs.Words.{even};
+ghost use Rattle.duplex_bytes.specs.Bytes.{read, readDuplex, FilledBytes};
+ghost use Rattle.duplex_bytes.specs.Words.{even};
 
 // No column of byte pairs has an odd length.
 pub fn even_lengths(a: usize, b: usize, c: usize, d: usize, e: usize, f: usize) -> bool

@@ -11,14 +11,14 @@ use Rattle.codec_duplex.specs.Combining.{outcome}
 use Rattle.codec_duplex.specs.Duplex.{Duplex, duplex, duplexLengths}
 use Rattle.codec_duplex.specs.Limits.{Judgement, refused, judgementOf, isDuplex}
 use Rattle.codec_duplex.proofs.Laws.{at-most-2048, fitting}
-use Rattle.codec_ffi.specs.Answer.{reported}
-use Rattle.codec_ffi.specs.Bytes.{read, readDuplex, pairLengths, duplexPairLengths, byteOutcome, FilledBytes, CombiningBytes}
-use Rattle.codec_ffi.specs.Words.{even}
-use Rattle.codec_ffi.specs.declared.answer.CombineAnswer.{CombineAnswer}
-use Rattle.codec_ffi.proofs.Laws.{length-words}
+use Rattle.duplex_bytes.specs.Answer.{reported}
+use Rattle.duplex_bytes.specs.Bytes.{read, readDuplex, pairLengths, duplexPairLengths, byteOutcome, FilledBytes, CombiningBytes}
+use Rattle.duplex_bytes.specs.Words.{even}
+use Rattle.duplex_bytes.specs.declared.answer.CombineAnswer.{CombineAnswer}
+use Rattle.duplex_bytes.proofs.Laws.{length-words}
 use borrow.Author.Needs.{needs}
-use Rattle.codec_ffi.proofs.combine.codec_ffi_combine.Statement.{statement}
-use Rattle.codec_ffi.proofs.combine.codec_ffi_combine.Tie as tie
+use Rattle.duplex_bytes.proofs.combining.build_duplex_consensus_from_bytes.Statement.{statement}
+use Rattle.duplex_bytes.proofs.combining.build_duplex_consensus_from_bytes.Tie as tie
 
 -- one of two tests fails
 either-fails : {A : Type 0} (e f : Bool) (x y : A) → (e && f) ≡ false → cond e (cond f x y) y ≡ y
@@ -144,8 +144,8 @@ returns-3 c =
     untouched _ _ _ _ _ _ (judgement (c .before .before .before)) _ (c .report3 .ensures)
     (sym (c .before .before .is-duplex .ensures) ∙ c .before .if2 .left)
 
-pub codec-ffi-combine-spec : {M : Type 1} → statement M
-codec-ffi-combine-spec =
+pub build-duplex-consensus-from-bytes-spec : {M : Type 1} → statement M
+build-duplex-consensus-from-bytes-spec =
     tie.close
     (tie.spec
     even-lengths-requires

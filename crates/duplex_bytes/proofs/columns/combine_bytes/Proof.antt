@@ -11,11 +11,11 @@ use Rattle.codec_duplex.specs.Columns.{strand, fieldAt, combinedColumn}
 use Rattle.codec_duplex.specs.Position.{combined}
 use Rattle.codec_duplex.specs.declared.position.Position.{Position}
 use Rattle.codec_duplex.proofs.BasesAlone.{bases-alone, quals-alone}
-use Rattle.codec_ffi.specs.Bytes.{read}
-use Rattle.codec_ffi.specs.Words.{lowFirst}
-use Rattle.codec_ffi.proofs.Laws.{length-words, lowFirst-put}
-use Rattle.codec_ffi.proofs.columns.combine_bytes.Statement.{statement}
-use Rattle.codec_ffi.proofs.columns.combine_bytes.Tie as tie
+use Rattle.duplex_bytes.specs.Bytes.{read}
+use Rattle.duplex_bytes.specs.Words.{lowFirst}
+use Rattle.duplex_bytes.proofs.Laws.{length-words, lowFirst-put}
+use Rattle.duplex_bytes.proofs.columns.combine_bytes.Statement.{statement}
+use Rattle.duplex_bytes.proofs.columns.combine_bytes.Tie as tie
 
 abbrev Inv-loop : tie.InvT-loop
 Inv-loop a-bases a-quals a-depths a-errors b-bases b-quals b-depths b-errors bases quals depths₀ errors₀ i₀ depths errors i =

@@ -12,9 +12,9 @@ use Rattle.codec_duplex.specs.Combining.{outcome, left}
 use Rattle.codec_duplex.specs.Duplex.{Duplex, duplex, duplexLengths}
 use Rattle.codec_duplex.specs.Limits.{Judgement, refused}
 use Rattle.codec_duplex.specs.declared.position.Position.{Position}
-use Rattle.codec_ffi.specs.Answer.{reported}
-use Rattle.codec_ffi.specs.Words.{words, lowFirst, even}
-use Rattle.codec_ffi.specs.declared.answer.CombineAnswer.{CombineAnswer}
+use Rattle.duplex_bytes.specs.Answer.{reported}
+use Rattle.duplex_bytes.specs.Words.{words, lowFirst, even}
+use Rattle.duplex_bytes.specs.declared.answer.CombineAnswer.{CombineAnswer}
 
 -- the strand or the duplex that four byte columns hold
 abbrev pub read : Strand → Strand

@@ -1,7 +1,7 @@
 -- The code joins its tests to the left, the definition to the right.
 use mathlib.Core.Bool.{and-assoc, and-true}
-use Rattle.codec_ffi.proofs.columns.even_lengths.Statement.{statement}
-use Rattle.codec_ffi.proofs.columns.even_lengths.Tie as tie
+use Rattle.duplex_bytes.proofs.columns.even_lengths.Statement.{statement}
+use Rattle.duplex_bytes.proofs.columns.even_lengths.Tie as tie
 
 returns : tie.Need-returns
 returns c = simp (and-assoc, and-true)

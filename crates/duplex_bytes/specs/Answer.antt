@@ -1,7 +1,7 @@
 -- The paper's cases as numbers.
 use lib.Ieee.{binary64, ofBits}
 use Rattle.codec_duplex.specs.Limits.{Judgement, tallies, overCount, overRate, refused}
-use Rattle.codec_ffi.specs.declared.answer.CombineAnswer.{CombineAnswer}
+use Rattle.duplex_bytes.specs.declared.answer.CombineAnswer.{CombineAnswer}
 
 -- kind 0: both tallies; 1: the count limit, with the disagreements; 2: the rate limit, with the rate; 3: a refusal, with its number
 abbrev pub reported : Judgement → CombineAnswer

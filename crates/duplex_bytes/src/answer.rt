@@ -2,7 +2,7 @@
 use codec_duplex::limits::DuplexAnswer;
 ghost use mathlib.Core.Path.{_≡_};
 ghost use Rattle.codec_duplex.specs.Limits.{judgementOf};
-ghost use Rattle.codec_ffi.specs.Answer.{reported};
+ghost use Rattle.duplex_bytes.specs.Answer.{reported};
 
 // Kind 0 has both tallies, 1 the disagreements above the count limit, 2 the rate above the rate limit, 3 a refusal's number and what goes with it.
 #[repr(C)]

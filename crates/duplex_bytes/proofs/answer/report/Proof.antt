@@ -1,7 +1,7 @@
 -- Each arm knows the answer's case.
 use borrow.Author.Needs.{needs}
-use Rattle.codec_ffi.proofs.answer.report.Statement.{statement}
-use Rattle.codec_ffi.proofs.answer.report.Tie as tie
+use Rattle.duplex_bytes.proofs.answer.report.Statement.{statement}
+use Rattle.duplex_bytes.proofs.answer.report.Tie as tie
 
 enum-known-answer : tie.Need-enum-known-answer
 enum-known-answer c = search needs
