@@ -1,4 +1,5 @@
 -- Each arm knows the answer's case.
+use mathlib.Core.Path.{refl}
 use borrow.Author.Needs.{needs}
 use Rattle.duplex_bytes.proofs.answer.report.Statement.{statement}
 use Rattle.duplex_bytes.proofs.answer.report.Tie as tie
@@ -16,16 +17,16 @@ enum-told : tie.Need-enum-told
 enum-told c = search needs
 
 returns : tie.Need-returns
-returns c = rw (c .before .answer .given .1)
+returns c = rw (c .before .answer .given .1) refl
 
 returns-2 : tie.Need-returns-2
-returns-2 c = rw (c .before .answer2 .given .1)
+returns-2 c = rw (c .before .answer2 .given .1) refl
 
 returns-3 : tie.Need-returns-3
-returns-3 c = rw (c .before .answer3 .given .1)
+returns-3 c = rw (c .before .answer3 .given .1) refl
 
 returns-4 : tie.Need-returns-4
-returns-4 c = rw (c .enum-told .given .1)
+returns-4 c = rw (c .enum-told .given .1) refl
 
 pub report-spec : {M : Type 1} → statement M
 report-spec =

@@ -1,7 +1,7 @@
 -- The decision is reported, and the marks are handed on.
 use borrow.Author.Needs.{needs}
-use Rattle.codec_ffi.proofs.select.report_columns.Statement.{statement}
-use Rattle.codec_ffi.proofs.select.report_columns.Tie as tie
+use Rattle.select_report.proofs.report.report_columns.Statement.{statement}
+use Rattle.select_report.proofs.report.report_columns.Tie as tie
 
 select-marked-requires : tie.Need-select-marked-requires
 select-marked-requires c κs = search needs

@@ -1,7 +1,7 @@
 -- Each arm knows the answer's case.
 use borrow.Author.Needs.{needs}
-use Rattle.codec_ffi.proofs.sheet.report_sheet.Statement.{statement}
-use Rattle.codec_ffi.proofs.sheet.report_sheet.Tie as tie
+use Rattle.sheet_text.proofs.report.report_sheet.Statement.{statement}
+use Rattle.sheet_text.proofs.report.report_sheet.Tie as tie
 
 enum-known-answer : tie.Need-enum-known-answer
 enum-known-answer c = search needs

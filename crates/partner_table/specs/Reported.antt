@@ -1,7 +1,7 @@
 -- Document 02, Req 11: the answer of the check as numbers.
 use Rattle.partner_table.specs.declared.compare.Answer.{Answer}
 use Rattle.partner_table.specs.declared.compare.Answer.the-variants.{Accepted, Wrong, Refused}
-use Rattle.codec_ffi.specs.declared.partner.PartnerAnswer.{PartnerAnswer}
+use Rattle.partner_table.specs.declared.report.PartnerAnswer.{PartnerAnswer}
 
 -- kind 0: accepted; 1: the first wrong line and its first wrong field; 2: a refusal's number, with a line and its table
 abbrev pub reportedCheck : Answer → PartnerAnswer

@@ -11,8 +11,8 @@ use Rattle.codec_select.specs.declared.options.Options.{Options}
 use Rattle.codec_select.specs.declared.records.Record.{Record}
 use Rattle.codec_select.specs.declared.selection.Decision.{Decision}
 use Rattle.codec_select.specs.declared.selection.Decision.the-variants.{Kept, Empty, Rejected, Refused}
-use Rattle.codec_ffi.specs.declared.select.SelectAnswer.{SelectAnswer}
-use Rattle.codec_ffi.specs.declared.select.SelectDecision.{SelectDecision}
+use Rattle.select_report.specs.declared.report.SelectAnswer.{SelectAnswer}
+use Rattle.select_report.specs.declared.report.SelectDecision.{SelectDecision}
 
 -- what is not kept has no window, no length and no orientation
 abbrev pub withoutWindow : ℕ → ℕ → ℕ → SelectDecision

@@ -1,7 +1,7 @@
 -- Each arm knows the answer's case.
 use borrow.Author.Needs.{needs}
-use Rattle.codec_ffi.proofs.rates.report_rates.Statement.{statement}
-use Rattle.codec_ffi.proofs.rates.report_rates.Tie as tie
+use Rattle.codec_stats.proofs.report.report_rates.Statement.{statement}
+use Rattle.codec_stats.proofs.report.report_rates.Tie as tie
 
 enum-known-answer : tie.Need-enum-known-answer
 enum-known-answer c = search needs

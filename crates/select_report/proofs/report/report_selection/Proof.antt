@@ -1,7 +1,7 @@
 -- Each arm knows the decision's case.
 use borrow.Author.Needs.{needs}
-use Rattle.codec_ffi.proofs.select.report_selection.Statement.{statement}
-use Rattle.codec_ffi.proofs.select.report_selection.Tie as tie
+use Rattle.select_report.proofs.report.report_selection.Statement.{statement}
+use Rattle.select_report.proofs.report.report_selection.Tie as tie
 
 enum-known-decision : tie.Need-enum-known-decision
 enum-known-decision c = search needs

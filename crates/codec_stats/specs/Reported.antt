@@ -1,8 +1,8 @@
 -- Document 01, 'the ledger's rates': the answer as numbers.
 use lib.Ieee.{binary64, ofBits}
 use Rattle.codec_stats.specs.declared.rates.LedgerRates.{LedgerRates}
 use Rattle.codec_stats.specs.declared.rates.LedgerRates.the-variants.{Rates, Refused}
-use Rattle.codec_ffi.specs.declared.rates.RatesAnswer.{RatesAnswer}
+use Rattle.codec_stats.specs.declared.report.RatesAnswer.{RatesAnswer}
 
 -- kind 0: filtered, the rate and the rate in millionths; 1: a refusal's number and what goes with it
 abbrev pub reportedRates : LedgerRates → RatesAnswer

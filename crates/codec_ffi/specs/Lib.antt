@@ -1,4 +1,0 @@
-pub mod Partner
-pub mod Rates
-pub mod Select
-pub mod Sheet
