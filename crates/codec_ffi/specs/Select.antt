@@ -5,10 +5,10 @@ use mathlib.Core.Path.{_≡_}
 use Prim.Native.Nat.{ℕ}
 use lib.ListN.{length}
 use Rattle.caller.specs.Reasons.{numberOf}
-use Rattle.codec_select.specs.Marks.{marks, sideFlags}
+use Rattle.codec_records.specs.Marks.{marks, sideFlags}
 use Rattle.codec_select.specs.Selection.{courseOf}
-use Rattle.codec_select.specs.declared.options.Options.{Options}
-use Rattle.codec_select.specs.declared.records.Record.{Record}
+use Rattle.codec_records.specs.declared.options.Options.{Options}
+use Rattle.codec_records.specs.declared.records.Record.{Record}
 use Rattle.codec_select.specs.declared.selection.Decision.{Decision}
 use Rattle.codec_select.specs.declared.selection.Decision.the-variants.{Kept, Empty, Rejected, Refused}
 use Rattle.codec_ffi.specs.declared.select.SelectAnswer.{SelectAnswer}

@@ -1,17 +1,17 @@
 // Selection alone, exported.
-use codec_select::alone::room;
-use codec_select::alone::select_marked;
-use codec_select::columns::Columns;
-use codec_select::options::Options;
-use codec_select::records::Record;
-use codec_select::records::gather;
+use codec_records::columns::Columns;
+use codec_records::options::Options;
+use codec_records::records::Record;
+use codec_records::records::gather;
+use codec_records::room::room;
 use codec_select::selection::Decision;
+use record_selection::alone::select_marked;
 ghost use mathlib.Core.List.{List};
 ghost use mathlib.Core.Path.{_≡_};
 ghost use Prim.Native.Nat.{_≤_};
 ghost use lib.ListN.{length};
-ghost use Rattle.codec_select.specs.Records.{Holds};
-ghost use Rattle.codec_select.specs.declared.records.Record.{Record as AnyRecord};
+ghost use Rattle.codec_records.specs.Records.{Holds};
+ghost use Rattle.codec_records.specs.declared.records.Record.{Record as AnyRecord};
 ghost use Rattle.codec_ffi.specs.Select.{withoutWindow, reportedSelection, SelectingRecords};
 
 // Kind 0 has the window, the length and which side is negative, 1 nothing, 2 a reason's number, 3 a refusal's number and what goes with it.

@@ -1,0 +1,2 @@
+// The selection of a family's records on their columns: with fates and sides for the family call, with marks for selection alone.
+pub mod alone;
