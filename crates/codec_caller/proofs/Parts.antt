@@ -23,12 +23,12 @@ use Rattle.codec_rejects.specs.Fates.{AreFates, settled, rejections}
 use Rattle.codec_rejects.specs.Handover.{markWords, listedRecords, listedReasons}
 use Rattle.codec_rejects.proofs.Listing.{length-handover}
 use Rattle.codec_rejects.proofs.Settling.{length-settled}
-use Rattle.codec_select.specs.Records.{blank, Full, Holds}
-use Rattle.codec_select.specs.declared.columns.Columns.{Columns}
-use Rattle.codec_select.specs.declared.options.Options.{Options}
-use Rattle.codec_select.specs.declared.records.Record.{Record}
+use Rattle.codec_records.specs.Records.{blank, Full, Holds}
+use Rattle.codec_records.specs.declared.columns.Columns.{Columns}
+use Rattle.codec_records.specs.declared.options.Options.{Options}
+use Rattle.codec_records.specs.declared.records.Record.{Record}
 use Rattle.codec_select.specs.declared.selection.Decision.{Decision}
-use Rattle.codec_select.proofs.Holding.{recordsIn, length-records, holds-records}
+use Rattle.codec_records.proofs.Holding.{recordsIn, length-records, holds-records}
 use Rattle.codec_stats.specs.Ledger.{tooLarge, full, ofCounts, plus, Addable}
 use Rattle.codec_stats.specs.declared.ledger.Ledger.{Ledger}
 use Rattle.codec_family.specs.Answer.{reported}

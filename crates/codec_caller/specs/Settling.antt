@@ -7,8 +7,8 @@ use Rattle.lists.specs.Written.{written}
 use Rattle.codec_rejects.specs.Fates.{rejections}
 use Rattle.codec_rejects.specs.Handover.{markWords, listedRecords, listedReasons}
 use Rattle.codec_select.specs.Selection.{courseOf}
-use Rattle.codec_select.specs.declared.options.Options.{Options}
-use Rattle.codec_select.specs.declared.records.Record.{Record}
+use Rattle.codec_records.specs.declared.options.Options.{Options}
+use Rattle.codec_records.specs.declared.records.Record.{Record}
 use Rattle.codec_select.specs.declared.selection.Decision.{Decision}
 use Rattle.codec_family.specs.Counted.{countedBy}
 use Rattle.codec_family.specs.declared.ending.Verdict.{Verdict}

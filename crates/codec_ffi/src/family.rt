@@ -1,10 +1,10 @@
 // The family call, for Rust and C hosts.
 use codec_family::answer::FamilyAnswer;
+use codec_records::options::Options;
+use codec_records::records::Record;
+use codec_records::records::gather;
+use codec_records::room::room;
 use codec_samples::family::consensus_reads_sampled;
-use codec_select::alone::room;
-use codec_select::options::Options;
-use codec_select::records::Record;
-use codec_select::records::gather;
 use codec_stats::ledger::Ledger;
 ghost use Rattle.codec_duplex.specs.Columns.{strand};
 ghost use Rattle.codec_duplex.specs.Duplex.{duplex};

@@ -1,12 +1,12 @@
 // Selection alone, exported.
-use codec_select::alone::room;
-use codec_select::options::Options;
-use codec_select::records::Record;
-use codec_select::records::gather;
-use select_report::report::SelectAnswer;
-use select_report::report::report_columns;
+use codec_records::options::Options;
+use codec_records::records::Record;
+use codec_records::records::gather;
+use codec_records::room::room;
+use record_selection::report::SelectAnswer;
+use record_selection::report::report_columns;
 ghost use lib.ListN.{length};
-ghost use Rattle.select_report.specs.Reported.{SelectingRecords};
+ghost use Rattle.record_selection.specs.Reported.{SelectingRecords};
 
 // Steps 1 to 7 of a family, without a ledger.
 #[no_mangle]

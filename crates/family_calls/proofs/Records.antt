@@ -8,9 +8,9 @@ use borrow.Author.Tests.{ltb-true, ltb-false}
 use lib.Dec.{ltb}
 use lib.ListN.{length, take, replicate, length-take, length-replicate}
 use Rattle.codec_caller.proofs.Parts.{Held}
-use Rattle.codec_select.specs.Records.{blank, Holds}
-use Rattle.codec_select.specs.declared.columns.Columns.{Columns}
-use Rattle.codec_select.specs.declared.records.Record.{Record}
+use Rattle.codec_records.specs.Records.{blank, Holds}
+use Rattle.codec_records.specs.declared.columns.Columns.{Columns}
+use Rattle.codec_records.specs.declared.records.Record.{Record}
 use Rattle.family_calls.specs.Ledgers.{recordsOf}
 
 -- the records of a table, which the columns made of it hold

@@ -8,8 +8,8 @@ use lib.ListN.{take, replicate}
 use Rattle.codec_family.specs.Call.{Call}
 use Rattle.codec_family.specs.declared.room.Room.{Room}
 use Rattle.codec_family.specs.declared.room.Widths.{Widths}
-use Rattle.codec_select.specs.Records.{blank}
-use Rattle.codec_select.specs.declared.records.Record.{Record}
+use Rattle.codec_records.specs.Records.{blank}
+use Rattle.codec_records.specs.declared.records.Record.{Record}
 use Rattle.codec_samples.specs.Books.{Books, booksOf}
 use Rattle.codec_samples.specs.SampledCall.{SampledCall, sampledCallOf, afterSampled}
 use Rattle.codec_stats.specs.Ledger.{Counts}

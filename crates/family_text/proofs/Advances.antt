@@ -10,7 +10,7 @@ use lib.Dec.{eqb, leb}
 use lib.ListN.{drop}
 use lib.Seq.{drop-drop}
 use Rattle.codec_duplex.specs.Columns.{Strand}
-use Rattle.codec_select.specs.declared.records.Record.{Record}
+use Rattle.codec_records.specs.declared.records.Record.{Record}
 use Rattle.table_text.specs.Parts.{Parts, last, ended, inFront, parts}
 use Rattle.family_text.specs.Family.{headerLine, familyFrom, familyOf, Call, call, noMore, familyOrEnd, callOf, FamilySteps}
 use Rattle.family_text.specs.Ledgers.{byTold, ledgersFrom}

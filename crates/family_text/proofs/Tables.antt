@@ -6,8 +6,8 @@ use native.Mathlib.Omega.{arith}
 use lib.ListN.{length, set, take, drop, length-append, length-take, length-replicate}
 use lib.Seq.{take-all, take-append-le}
 use Rattle.bytes.specs.Bytes.{indexOf}
-use Rattle.codec_select.specs.Records.{blank}
-use Rattle.codec_select.specs.declared.records.Record.{Record}
+use Rattle.codec_records.specs.Records.{blank}
+use Rattle.codec_records.specs.declared.records.Record.{Record}
 use Rattle.lists.proofs.Written.{written-more, length-written}
 use Rattle.table_text.specs.Parts.{Parts}
 use Rattle.family_text.specs.Reading.{got, wrong, cut, gotAfter, lineThen, oneLine, linesFrom}

@@ -4,7 +4,7 @@ use mathlib.Core.Path.{_≡_}
 use Prim.Native.Nat.{ℕ, _≤_}
 use lib.ListN.{length, take}
 use Rattle.codec_duplex.specs.Columns.{Strand}
-use Rattle.codec_select.specs.declared.records.Record.{Record}
+use Rattle.codec_records.specs.declared.records.Record.{Record}
 use Rattle.table_text.specs.Parts.{Parts, last, ended}
 use Rattle.family_text.specs.Header.{headerOf}
 use Rattle.family_text.specs.Ledgers.{ledgersFrom}

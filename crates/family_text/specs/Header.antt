@@ -6,7 +6,7 @@ use Prim.Native.Nat.{ℕ}
 use lib.Dec.{eqb}
 use lib.Ieee.{ofBits, binary64}
 use lib.ListN.{getD}
-use Rattle.codec_select.specs.declared.options.Options.{Options}
+use Rattle.codec_records.specs.declared.options.Options.{Options}
 use Rattle.table_text.specs.Text.{bytesOf}
 use Rattle.family_text.specs.Line.{lineOf}
 use Rattle.family_text.specs.Record.{numberAt}

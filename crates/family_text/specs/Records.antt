@@ -2,8 +2,8 @@
 use mathlib.Core.List.{List, [], _∷_}
 use Prim.Native.Nat.{ℕ, zero, suc}
 use lib.ListN.{take, replicate}
-use Rattle.codec_select.specs.Records.{blank}
-use Rattle.codec_select.specs.declared.records.Record.{Record}
+use Rattle.codec_records.specs.Records.{blank}
+use Rattle.codec_records.specs.declared.records.Record.{Record}
 use Rattle.lists.specs.Written.{written}
 use Rattle.table_text.specs.Parts.{Parts}
 use Rattle.family_text.specs.Parsed.{Parsed, parsed, unparsed}

@@ -9,7 +9,7 @@ use crate::records;
 use crate::settings::Handed;
 use crate::strands;
 use codec_family::room::Widths;
-use codec_select::records::Record;
+use codec_records::records::Record;
 use table_text::parts;
 ghost use mathlib.Core.Path.{_≡_};
 ghost use Prim.Native.Nat.{_≤_};

@@ -1,7 +1,7 @@
 // The first line of a family, `F RECORDS WORDS MIN CAP MINDUPLEX LEGACY OUTERLEN OUTERQ SSQ MAXDIS RATE R1 R2 COLS LIST MARKS`.
 use crate::line;
 use crate::value::Value;
-use codec_select::options::Options;
+use codec_records::options::Options;
 ghost use mathlib.Core.Path.{_≡_};
 ghost use lib.Ieee.{ofBits, binary64};
 ghost use Rattle.family_text.specs.Fit.{Fitting};

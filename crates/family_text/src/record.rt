@@ -1,7 +1,7 @@
 // The line of a record: `R FLAGS NAME VERDICT RANK CLIPPED POSITION START COUNT`.
 use crate::line;
 use crate::value::Value;
-use codec_select::records::Record;
+use codec_records::records::Record;
 ghost use mathlib.Core.Path.{_≡_};
 ghost use Rattle.family_text.specs.Fit.{InLimit, Fitting};
 ghost use Rattle.family_text.specs.Record.{recordKinds, recordLimits, integerOf, recordFrom, recordOf};

@@ -3,7 +3,7 @@ use crate::lines::Next;
 use crate::lines::Stop;
 use crate::record;
 use crate::record::RecordLine;
-use codec_select::records::Record;
+use codec_records::records::Record;
 use table_text::parts;
 ghost use mathlib.Core.Path.{_≡_};
 ghost use Prim.Native.Nat.{_≤_};

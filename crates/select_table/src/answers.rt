@@ -1,8 +1,7 @@
 // The families of a window, one after the other, and what selection answers to each.
 use answer_text::selection_text;
-use codec_select::alone;
-use codec_select::columns::columns_of;
-use codec_select::records::Record;
+use codec_records::columns::columns_of;
+use codec_records::records::Record;
 use family_text::column;
 use family_text::family;
 use family_text::family::Ending;
@@ -13,6 +12,7 @@ use family_text::settings::Handed;
 use family_windows::output;
 use family_windows::windows;
 use family_windows::windows::Reached;
+use record_selection::alone;
 ghost use Prim.Native.Nat.{_+_, _≤_, _<_};
 ghost use lib.ListN.{length};
 ghost use Rattle.family_windows.specs.Places.{ReachedWithin};

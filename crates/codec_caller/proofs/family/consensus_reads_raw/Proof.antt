@@ -8,11 +8,11 @@ use borrow.Author.Needs.{needs}
 use lib.ListN.{length, take, length-take}
 use Rattle.codec_duplex.specs.Columns.{Strand, strand}
 use Rattle.codec_duplex.specs.Duplex.{duplex}
-use Rattle.codec_select.specs.Records.{Holds}
-use Rattle.codec_select.specs.declared.columns.Columns.{Columns}
-use Rattle.codec_select.specs.declared.records.Record.{Record}
+use Rattle.codec_records.specs.Records.{Holds}
+use Rattle.codec_records.specs.declared.columns.Columns.{Columns}
+use Rattle.codec_records.specs.declared.records.Record.{Record}
 use Rattle.codec_select.specs.declared.selection.Decision.{Decision}
-use Rattle.codec_select.proofs.Holding.{full-of}
+use Rattle.codec_records.proofs.Holding.{full-of}
 use Rattle.codec_family.specs.Call.{Lent, lentOf}
 use Rattle.codec_caller.specs.Settling.{Selected}
 use Rattle.codec_caller.proofs.Parts.{Held, recordsOf, some-records, selected-front, family-refused, lends, frame-fits, few-own, are-fates, framable, addable, family-answered}

@@ -43,25 +43,25 @@ use denote.Triple.Walked.{says, Stays, stay-none, stay-none-slice, gave-ref, gav
 use denote.Exit.{yes}
 use Rattle.codec_duplex.specs.Columns.{strand}
 use Rattle.codec_duplex.specs.Duplex.{duplex}
-use Rattle.codec_select.specs.Records.{Holds}
-use Rattle.codec_select.specs.declared.columns.Columns.{Columns}
-use Rattle.codec_select.specs.declared.options.Options.{Options as O-value}
-use Rattle.codec_select.specs.declared.records.Record.{Record}
-use Rattle.codec_select.proofs.Holding.{holds-all}
-use Rattle.codec_select.proofs.columns.Columns as Co
-use Rattle.codec_select.proofs.columns.Columns.Laws as Co′
-use Rattle.codec_select.proofs.options.Options as O
-use Rattle.codec_select.proofs.options.Options.Laws as O′
-use Rattle.codec_select.proofs.records.Record as R
-use Rattle.codec_select.proofs.records.Record.Laws as R′
-use Rattle.codec_select.proofs.alone.room as room
-use Rattle.codec_select.proofs.alone.room.Symbol as room-def
-use Rattle.codec_select.proofs.alone.room.Symbol.{name as #room}
-use Rattle.codec_select.proofs.alone.room.Met as room-thm
-use Rattle.codec_select.proofs.records.gather as gather
-use Rattle.codec_select.proofs.records.gather.Symbol as gather-def
-use Rattle.codec_select.proofs.records.gather.Symbol.{name as #gather}
-use Rattle.codec_select.proofs.records.gather.Met as gather-thm
+use Rattle.codec_records.specs.Records.{Holds}
+use Rattle.codec_records.specs.declared.columns.Columns.{Columns}
+use Rattle.codec_records.specs.declared.options.Options.{Options as O-value}
+use Rattle.codec_records.specs.declared.records.Record.{Record}
+use Rattle.codec_records.proofs.Holding.{holds-all}
+use Rattle.codec_records.proofs.columns.Columns as Co
+use Rattle.codec_records.proofs.columns.Columns.Laws as Co′
+use Rattle.codec_records.proofs.options.Options as O
+use Rattle.codec_records.proofs.options.Options.Laws as O′
+use Rattle.codec_records.proofs.records.Record as R
+use Rattle.codec_records.proofs.records.Record.Laws as R′
+use Rattle.codec_records.proofs.room.room as room
+use Rattle.codec_records.proofs.room.room.Symbol as room-def
+use Rattle.codec_records.proofs.room.room.Symbol.{name as #room}
+use Rattle.codec_records.proofs.room.room.Met as room-thm
+use Rattle.codec_records.proofs.records.gather as gather
+use Rattle.codec_records.proofs.records.gather.Symbol as gather-def
+use Rattle.codec_records.proofs.records.gather.Symbol.{name as #gather}
+use Rattle.codec_records.proofs.records.gather.Met as gather-thm
 use Rattle.codec_stats.specs.declared.ledger.Ledger.{Ledger as G-value}
 use Rattle.codec_stats.proofs.ledger.Ledger as G
 use Rattle.codec_stats.proofs.ledger.Ledger.Laws as G′
@@ -419,6 +419,6 @@ codec-ffi-family-spec 𝓤 H 𝓜 𝓖 𝓡 =
     entered 𝓤 H (tripleOf 𝓤 H (𝓖 .A) f.signature (f.spec 𝓤 H (𝓖 .A) (𝓜 .mem) (𝓡 .run)))
     (tables 𝓤 H 𝓜 𝓡 code.env .C) (tables 𝓤 H 𝓜 𝓡 code.env .Λ) #family code.function (code.unfolded 𝓤 H 𝓜 𝓡)
     (f-meets 𝓤 H (𝓖 .A) (givenOf 𝓤 H 𝓜 𝓖) (𝓜 .mem) (𝓡 .run) (tablesOf 𝓤 H 𝓜 (tables 𝓤 H 𝓜 𝓡 code.env))
-    (cited 𝓤 H (RoomC 𝓤 H (𝓖 .A) (𝓜 .mem) (𝓡 .run)) 𝓜 𝓡 code.env #room room-def.routine code.calls-codec-select·alone·room (room-thm.met 𝓤 H 𝓜 𝓖 𝓡))
-    (cited 𝓤 H (GatherC 𝓤 H (𝓖 .A) (𝓜 .mem) (𝓡 .run)) 𝓜 𝓡 code.env #gather gather-def.routine code.calls-codec-select·records·gather (gather-thm.met 𝓤 H 𝓜 𝓖 𝓡))
+    (cited 𝓤 H (RoomC 𝓤 H (𝓖 .A) (𝓜 .mem) (𝓡 .run)) 𝓜 𝓡 code.env #room room-def.routine code.calls-codec-records·room·room (room-thm.met 𝓤 H 𝓜 𝓖 𝓡))
+    (cited 𝓤 H (GatherC 𝓤 H (𝓖 .A) (𝓜 .mem) (𝓡 .run)) 𝓜 𝓡 code.env #gather gather-def.routine code.calls-codec-records·records·gather (gather-thm.met 𝓤 H 𝓜 𝓖 𝓡))
     (cited 𝓤 H (OnC 𝓤 H (𝓖 .A) (𝓜 .mem) (𝓡 .run)) 𝓜 𝓡 code.env #on on-def.routine code.calls-codec-samples·family·consensus-reads-sampled (on-thm.met 𝓤 H 𝓜 𝓖 𝓡)))

@@ -40,33 +40,33 @@ use denote.Triple.Clauses.{ensured, lasts}
 use denote.Triple.Table.{entered, cited}
 use denote.Triple.Walked.{says, Stays, stay-none, stay-none-slice, walkOf, goes-none, goes-none-slice, Walks, ends-at, walked, walk-meets}
 use denote.Exit.{yes}
-use Rattle.codec_select.specs.Records.{Holds}
-use Rattle.codec_select.specs.declared.columns.Columns.{Columns}
-use Rattle.codec_select.specs.declared.options.Options.{Options}
-use Rattle.codec_select.specs.declared.records.Record.{Record}
-use Rattle.codec_select.proofs.Holding.{holds-all}
-use Rattle.codec_select.proofs.columns.Columns as Co
-use Rattle.codec_select.proofs.columns.Columns.Laws as Co′
-use Rattle.codec_select.proofs.options.Options as O
-use Rattle.codec_select.proofs.options.Options.Laws as O′
-use Rattle.codec_select.proofs.records.Record as R
-use Rattle.codec_select.proofs.records.Record.Laws as R′
-use Rattle.codec_select.proofs.alone.room as room
-use Rattle.codec_select.proofs.alone.room.Symbol as room-def
-use Rattle.codec_select.proofs.alone.room.Symbol.{name as #codec_select·room}
-use Rattle.codec_select.proofs.alone.room.Met as room-thm
-use Rattle.codec_select.proofs.records.gather as gather
-use Rattle.codec_select.proofs.records.gather.Symbol as gather-def
-use Rattle.codec_select.proofs.records.gather.Symbol.{name as #codec_select·gather}
-use Rattle.codec_select.proofs.records.gather.Met as gather-thm
-use Rattle.select_report.specs.Reported.{SelectingRecords}
-use Rattle.select_report.specs.declared.report.SelectAnswer.{SelectAnswer}
-use Rattle.select_report.proofs.report.SelectAnswer as S
-use Rattle.select_report.proofs.report.SelectAnswer.Laws as S′
-use Rattle.select_report.proofs.report.report_columns as report
-use Rattle.select_report.proofs.report.report_columns.Symbol as report-def
-use Rattle.select_report.proofs.report.report_columns.Symbol.{name as #select_report·report-columns}
-use Rattle.select_report.proofs.report.report_columns.Met as report-thm
+use Rattle.codec_records.specs.Records.{Holds}
+use Rattle.codec_records.specs.declared.columns.Columns.{Columns}
+use Rattle.codec_records.specs.declared.options.Options.{Options}
+use Rattle.codec_records.specs.declared.records.Record.{Record}
+use Rattle.codec_records.proofs.Holding.{holds-all}
+use Rattle.codec_records.proofs.columns.Columns as Co
+use Rattle.codec_records.proofs.columns.Columns.Laws as Co′
+use Rattle.codec_records.proofs.options.Options as O
+use Rattle.codec_records.proofs.options.Options.Laws as O′
+use Rattle.codec_records.proofs.records.Record as R
+use Rattle.codec_records.proofs.records.Record.Laws as R′
+use Rattle.codec_records.proofs.room.room as room
+use Rattle.codec_records.proofs.room.room.Symbol as room-def
+use Rattle.codec_records.proofs.room.room.Symbol.{name as #codec_records·room}
+use Rattle.codec_records.proofs.room.room.Met as room-thm
+use Rattle.codec_records.proofs.records.gather as gather
+use Rattle.codec_records.proofs.records.gather.Symbol as gather-def
+use Rattle.codec_records.proofs.records.gather.Symbol.{name as #codec_records·gather}
+use Rattle.codec_records.proofs.records.gather.Met as gather-thm
+use Rattle.record_selection.specs.Reported.{SelectingRecords}
+use Rattle.record_selection.specs.declared.report.SelectAnswer.{SelectAnswer}
+use Rattle.record_selection.proofs.report.SelectAnswer as S
+use Rattle.record_selection.proofs.report.SelectAnswer.Laws as S′
+use Rattle.record_selection.proofs.report.report_columns as report
+use Rattle.record_selection.proofs.report.report_columns.Symbol as report-def
+use Rattle.record_selection.proofs.report.report_columns.Symbol.{name as #record_selection·report-columns}
+use Rattle.record_selection.proofs.report.report_columns.Met as report-thm
 use Rattle.codec_ffi.proofs.select.codec_ffi_select.Key.{name as #codec_ffi·select}
 use Rattle.codec_ffi.proofs.select.codec_ffi_select as f
 use Rattle.codec_ffi.proofs.select.codec_ffi_select.Statement as stated
@@ -196,7 +196,7 @@ module _ {M : Type 1} (𝓤 : URA M) (H : Heap 𝓤) (A : Atoms 𝓤) (W : Given
       split ! $ move ! (0 ∷ 2 ∷ []) $ join ! $ frame ! $
       owned ! O.the-row (Is O.the-row) (LL.makes O.the-type O′.the-plain 𝓤 H A) o (s₂ ∷ []) is $ fjoin ! $ move ! (2 ∷ 0 ∷ []) $ fjoin ! $ move ! (1 ∷ 0 ∷ []) $ fjoin ! $ done !
 
-  module _ (C : Calls 𝓤 H) (Λ : Loops 𝓤 H) (fm : FmC 𝓤 H (W .laws) C) (known-room : Triple 𝓤 (C #codec_select·room) (RoomC 𝓤 H A mem run)) (known-gather : Triple 𝓤 (C #codec_select·gather) (GatherC 𝓤 H A mem run)) (known-report : Triple 𝓤 (C #select_report·report-columns) (ReportC 𝓤 H A mem run)) where
+  module _ (C : Calls 𝓤 H) (Λ : Loops 𝓤 H) (fm : FmC 𝓤 H (W .laws) C) (known-room : Triple 𝓤 (C #codec_records·room) (RoomC 𝓤 H A mem run)) (known-gather : Triple 𝓤 (C #codec_records·gather) (GatherC 𝓤 H A mem run)) (known-report : Triple 𝓤 (C #record_selection·report-columns) (ReportC 𝓤 H A mem run)) where
     walk : Room row-of len → Room u32 (length (now x₁)) → Is O.the-row o (s₂ ∷ []) → ent 𝓤 (onEntry 𝓤 H A f.signature κs qs a vals) (WpFn 𝓤 H C Λ code.function (s₀ ∷ s₁ ∷ s₂ ∷ []) Post)
     walk g₀ g₁ is =
         qed W ((‵ (flft κ₀ q₀) ⊛ Tok) ∷ ‵ (fsep Own₀ Rest) ∷ []) ∵ enter ! C Λ code.function (s₀ ∷ s₁ ∷ s₂ ∷ []) _ $
@@ -231,7 +231,7 @@ module _ {M : Type 1} (𝓤 : URA M) (H : Heap 𝓤) (A : Atoms 𝓤) (W : Given
         by ! (exits r v is (d (now x₀) (holds-all cols (now x₀) n h e)))))))))))))))))))))))
 
 module _ {M : Type 1} (𝓤 : URA M) (H : Heap 𝓤) (A : Atoms 𝓤) (W : Given 𝓤 H A) (mem : Memory → SProp 𝓤) (run : Routine → Fun 𝓤) where
-  f-walks : (C : Calls 𝓤 H) (Λ : Loops 𝓤 H) → FmC 𝓤 H (W .laws) C → Triple 𝓤 (C #codec_select·room) (RoomC 𝓤 H A mem run) → Triple 𝓤 (C #codec_select·gather) (GatherC 𝓤 H A mem run) → Triple 𝓤 (C #select_report·report-columns) (ReportC 𝓤 H A mem run)
+  f-walks : (C : Calls 𝓤 H) (Λ : Loops 𝓤 H) → FmC 𝓤 H (W .laws) C → Triple 𝓤 (C #codec_records·room) (RoomC 𝓤 H A mem run) → Triple 𝓤 (C #codec_records·gather) (GatherC 𝓤 H A mem run) → Triple 𝓤 (C #record_selection·report-columns) (ReportC 𝓤 H A mem run)
       → Walks 𝓤 H A f.ended stayed (WpFn 𝓤 H C Λ code.function) (f.clauses 𝓤 H A mem run)
   f-walks C Λ fm known-room known-gather known-report = walked 𝓤 H A f.ended stayed (f.clauses 𝓤 H A mem run) (WpFn 𝓤 H C Λ code.function)
       (λ κs. (slice-vals, (slice-vals, (LL.vals O.the-type O′.the-laws, tt)))) (λ κs. (shr-slice-tells (named 0) (κs .0) row-of, (shr-slice-tells (named 1) (κs .1 .0) u32, (LL.tells O.the-type O′.the-laws, tt))))
@@ -239,7 +239,7 @@ module _ {M : Type 1} (𝓤 : URA M) (H : Heap 𝓤) (A : Atoms 𝓤) (W : Given
       (walk 𝓤 H A W mem run (κs .0) (κs .1 .0) (qs .0) (qs .1 .0) (a .0) (a .1 .0) (a .1 .1 .0) C Λ fm known-room known-gather known-report (are .0 .0 .1) (are .1 .0 .0 .1) (are .1 .1 .0)))
 
 f-meets : {M : Type 1} (𝓤 : URA M) (H : Heap 𝓤) (A : Atoms 𝓤) → Given 𝓤 H A → (mem : Memory → SProp 𝓤) (run : Routine → Fun 𝓤) (𝓣 : Tables 𝓤 H)
-    → Triple 𝓤 (𝓣 .C #codec_select·room) (RoomC 𝓤 H A mem run) → Triple 𝓤 (𝓣 .C #codec_select·gather) (GatherC 𝓤 H A mem run) → Triple 𝓤 (𝓣 .C #select_report·report-columns) (ReportC 𝓤 H A mem run)
+    → Triple 𝓤 (𝓣 .C #codec_records·room) (RoomC 𝓤 H A mem run) → Triple 𝓤 (𝓣 .C #codec_records·gather) (GatherC 𝓤 H A mem run) → Triple 𝓤 (𝓣 .C #record_selection·report-columns) (ReportC 𝓤 H A mem run)
     → Meets 𝓤 H A f.signature (WpFn 𝓤 H (𝓣 .C) (𝓣 .Λ) code.function) (f.spec 𝓤 H A mem run)
 f-meets 𝓤 H A W mem run 𝓣 known-room known-gather known-report =
     walk-meets 𝓤 H A f.ended stayed W (goes-none-slice 𝓤 H A W 2 (0 ∷ []) tt (plain (λ _. row-of)) yes, (goes-none-slice 𝓤 H A W 2 (1 ∷ []) tt (plain (λ _. u32)) yes, (goes-none 𝓤 H A W 2 (λ _. O.the-row) yes (λ κs x f. refl), tt))) (f.clauses 𝓤 H A mem run)
@@ -251,6 +251,6 @@ codec-ffi-select-spec 𝓤 H 𝓜 𝓖 𝓡 =
     entered 𝓤 H (tripleOf 𝓤 H (𝓖 .A) f.signature (f.spec 𝓤 H (𝓖 .A) (𝓜 .mem) (𝓡 .run)))
     (tables 𝓤 H 𝓜 𝓡 code.env .C) (tables 𝓤 H 𝓜 𝓡 code.env .Λ) #codec_ffi·select code.function (code.unfolded 𝓤 H 𝓜 𝓡)
     (f-meets 𝓤 H (𝓖 .A) (givenOf 𝓤 H 𝓜 𝓖) (𝓜 .mem) (𝓡 .run) (tablesOf 𝓤 H 𝓜 (tables 𝓤 H 𝓜 𝓡 code.env))
-    (cited 𝓤 H (RoomC 𝓤 H (𝓖 .A) (𝓜 .mem) (𝓡 .run)) 𝓜 𝓡 code.env #codec_select·room room-def.routine code.calls-codec-select·alone·room (room-thm.met 𝓤 H 𝓜 𝓖 𝓡))
-    (cited 𝓤 H (GatherC 𝓤 H (𝓖 .A) (𝓜 .mem) (𝓡 .run)) 𝓜 𝓡 code.env #codec_select·gather gather-def.routine code.calls-codec-select·records·gather (gather-thm.met 𝓤 H 𝓜 𝓖 𝓡))
-    (cited 𝓤 H (ReportC 𝓤 H (𝓖 .A) (𝓜 .mem) (𝓡 .run)) 𝓜 𝓡 code.env #select_report·report-columns report-def.routine code.calls-select-report·report·report-columns (report-thm.met 𝓤 H 𝓜 𝓖 𝓡)))
+    (cited 𝓤 H (RoomC 𝓤 H (𝓖 .A) (𝓜 .mem) (𝓡 .run)) 𝓜 𝓡 code.env #codec_records·room room-def.routine code.calls-codec-records·room·room (room-thm.met 𝓤 H 𝓜 𝓖 𝓡))
+    (cited 𝓤 H (GatherC 𝓤 H (𝓖 .A) (𝓜 .mem) (𝓡 .run)) 𝓜 𝓡 code.env #codec_records·gather gather-def.routine code.calls-codec-records·records·gather (gather-thm.met 𝓤 H 𝓜 𝓖 𝓡))
+    (cited 𝓤 H (ReportC 𝓤 H (𝓖 .A) (𝓜 .mem) (𝓡 .run)) 𝓜 𝓡 code.env #record_selection·report-columns report-def.routine code.calls-record-selection·report·report-columns (report-thm.met 𝓤 H 𝓜 𝓖 𝓡)))

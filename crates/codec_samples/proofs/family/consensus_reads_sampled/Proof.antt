@@ -8,9 +8,9 @@ use borrow.Author.Needs.{needs}
 use lib.ListN.{length}
 use Rattle.codec_duplex.specs.Columns.{strand}
 use Rattle.codec_duplex.specs.Duplex.{duplex}
-use Rattle.codec_select.specs.Records.{Holds}
-use Rattle.codec_select.specs.declared.records.Record.{Record}
-use Rattle.codec_select.proofs.Holding.{full-of}
+use Rattle.codec_records.specs.Records.{Holds}
+use Rattle.codec_records.specs.declared.records.Record.{Record}
+use Rattle.codec_records.proofs.Holding.{full-of}
 use Rattle.codec_family.specs.Call.{Call, Lent, lentOf, callOf}
 use Rattle.codec_family.specs.FamilyCalled.{FamilyCalled}
 use Rattle.codec_caller.proofs.Parts.{Held, recordsOf, some-records}

@@ -7,8 +7,8 @@ use native.Mathlib.Nat.{sub-zero}
 use native.Mathlib.Omega.{arith}
 use borrow.Author.Needs.{needs}
 use lib.ListN.{length, length-append, length-replicate}
-use Rattle.codec_select.specs.Records.{blank}
-use Rattle.codec_select.specs.declared.records.Record.{Record}
+use Rattle.codec_records.specs.Records.{blank}
+use Rattle.codec_records.specs.declared.records.Record.{Record}
 use Rattle.family_text.specs.Reading.{gotAfter, linesFrom}
 use Rattle.family_text.specs.Records.{recordLine, recordsFrom, tableOf}
 use Rattle.family_text.proofs.Readings.{line-cut, got-none}

@@ -1,2 +1,0 @@
-// Selection alone as a host is told: its answer as numbers.
-pub mod report;
