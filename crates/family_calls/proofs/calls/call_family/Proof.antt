@@ -3,8 +3,8 @@ use native.Mathlib.Omega.{arith}
 use borrow.Author.Needs.{needs}
 use lib.ListN.{take, length-take}
 use Rattle.codec_duplex.specs.Columns.{strand}
+use Rattle.strand_lines.specs.Strands.{held}
 use Rattle.family_text.specs.Family.{family as familyOf}
-use Rattle.family_text.specs.Strands.{held}
 use Rattle.family_calls.specs.Ledgers.{recordsOf}
 use Rattle.family_calls.proofs.Ledgers.{relent, lent-for, kept-for}
 use Rattle.family_calls.proofs.Records.{table-records}
