@@ -3,10 +3,10 @@ use mathlib.Core.Path.{_≡_, sym, _∙_}
 use Prim.Native.Nat.{ℕ, _≤_}
 use native.Mathlib.Omega.{arith}
 use borrow.Author.Needs.{needs}
-use lib.ListN.{length, take, replicate, length-take, length-append, length-drop}
+use lib.ListN.{length, take, replicate, length-take}
 use lib.Seq.{take-at}
-use Rattle.codec_caller.proofs.family.select_fates.Statement.{statement}
-use Rattle.codec_caller.proofs.family.select_fates.Tie as tie
+use Rattle.codec_caller.proofs.choosing.select_fates.Statement.{statement}
+use Rattle.codec_caller.proofs.choosing.select_fates.Tie as tie
 
 fates-count : (n : ℕ) → n ≤ 512 → n ≡ length {A = ℕ} (take n (replicate 512 0))
 fates-count n h = simp length-take (omega arith)
@@ -35,10 +35,9 @@ returns : tie.Need-returns
 returns c =
     let given = c .before .before .before in
     let room = given .before .before .before .before .room in
-    let size = given .select-records .kept .1 .1 .1 .1 .0 ∙ sym (fates-count (room .result) (room .ensures .1 .1)) in (
-      λ rs held. let into = given .select-records .ensures rs held in record { decided = into .decision; fates-are = λ few. take-at _ _ _ (size ∙ room .ensures .0) ∙ into .fates-are few },
-      simp (length-append, length-drop) (omega (arith, size, room .ensures .1 .1)),
-    )
+    let size = given .select-records .kept .1 .1 .1 .1 .0 ∙ sym (fates-count (room .result) (room .ensures .1 .1)) in λ rs held.
+    let into = given .select-records .ensures rs held in
+    record { decided = into .decision; fates-are = λ few. take-at _ _ _ (size ∙ room .ensures .0) ∙ into .fates-are few }
 
 pub select-fates-spec : {M : Type 1} → statement M
 select-fates-spec =
