@@ -1,16 +1,16 @@
--- What holds of a family call between its parts, for every list of records that its columns hold.
+-- What holds of a family call between its parts, for every family of which selection chose so.
 use mathlib.Core.Bool.{Bool, true, false, cond, not, _&&_}
 use mathlib.Core.List.{List}
 use mathlib.Core.Path.{_≡_, refl, sym, _∙_, ap}
-use Prim.Native.Nat.{ℕ, _≤_, _<_}
+use Prim.Native.Nat.{ℕ, _≤_}
 use native.Mathlib.Omega.{arith}
-use borrow.Author.Tests.{ltb-true, ltb-false, leb-true, eqb-true, not-false}
+use borrow.Author.Tests.{ltb-false, leb-true, eqb-true, not-false}
 use lib.Dec.{eqb, leb, ltb}
-use lib.ListN.{length, getD, take, replicate, length-take, length-replicate}
-use Rattle.lists.specs.Every.{every}
+use lib.ListN.{length, take, length-map}
+use mir.Val.{Val}
+use denote.Laws.{Is}
 use Rattle.lists.specs.Written.{written}
 use Rattle.lists.proofs.Cases.{and-both, or-neither}
-use Rattle.lists.proofs.Every.{every-at}
 use Rattle.caller.specs.Refusals.{isRefusal, orElse, refusedIf}
 use Rattle.caller.specs.declared.refusal.Refusal.{Refusal}
 use Rattle.caller.specs.declared.refusal.Refusal.the-variants as refusals
@@ -23,12 +23,9 @@ use Rattle.codec_rejects.specs.Fates.{AreFates, settled, rejections}
 use Rattle.codec_rejects.specs.Handover.{markWords, listedRecords, listedReasons}
 use Rattle.codec_rejects.proofs.Listing.{length-handover}
 use Rattle.codec_rejects.proofs.Settling.{length-settled}
-use Rattle.codec_select.specs.Records.{blank, Full, Holds}
-use Rattle.codec_select.specs.declared.columns.Columns.{Columns}
-use Rattle.codec_select.specs.declared.options.Options.{Options}
-use Rattle.codec_select.specs.declared.records.Record.{Record}
+use Rattle.codec_records.specs.declared.options.Options.{Options}
+use Rattle.codec_records.specs.declared.records.Record.{Record}
 use Rattle.codec_select.specs.declared.selection.Decision.{Decision}
-use Rattle.codec_select.proofs.Holding.{recordsIn, length-records, holds-records}
 use Rattle.codec_stats.specs.Ledger.{tooLarge, full, ofCounts, plus, Addable}
 use Rattle.codec_stats.specs.declared.ledger.Ledger.{Ledger}
 use Rattle.codec_family.specs.Answer.{reported}
@@ -50,25 +47,15 @@ use Rattle.codec_family.proofs.Selected.{few-records, decision-refusal}
 use Rattle.codec_family.proofs.Settled.{fated}
 use Rattle.codec_caller.specs.Columns.{WrittenIf}
 use Rattle.codec_caller.specs.Settling.{Selected, Settles}
+use Rattle.codec_caller.specs.declared.choosing.Chosen.{Chosen}
 use Rattle.codec_caller.specs.declared.family.Settlement.{Settlement}
+use Rattle.codec_caller.proofs.choosing.Chosen as Ch
 
--- a list of as many records, which the columns hold where they are not too many
-pub record Held (columns : Columns) (len : ℕ) (rs : List Record) : Type 0 where
-  pub size : length rs ≡ len
-  pub front : len ≤ 512 → Holds columns len rs
+-- a chosen array of fates has 512 places
+pub fates-places : (c : Chosen) (vs : List Val) → Is Ch.the-row c vs → length (c .fates) ≡ 512
+fates-places c vs is = sym (length-map (c .fates) (λ x. x)) ∙ is .1 .1 .1 .0 .1 .0 .1
 
--- there is one
-abbrev pub recordsOf : Columns → ℕ → List Record
-recordsOf columns len = cond (ltb 512 len) (replicate len blank) (recordsIn columns len)
-
-pub some-records : (columns : Columns) (len : ℕ) → Full columns → Held columns len (recordsOf columns len)
-some-records columns len full = go (ltb 512 len) refl
-  where
-    go : (many : Bool) → ltb 512 len ≡ many → Held columns len (cond many (replicate len blank) (recordsIn columns len))
-    go true e = record { size = length-replicate len blank; front = λ few. absurd (omega (arith, ltb-true 512 len e)) }
-    go false e = record { size = length-records columns len; front = λ few. holds-records columns len full few }
-
--- the fates of as many records as the columns take
+-- the fates of as many records as are taken
 pub selected-front : (o : Options) (len n : ℕ) (rs : List Record) (ops : List ℕ) (d : Decision) (own : List ℕ) → n ≡ cond (ltb 512 len) 0 len → Selected o len rs ops d (take (cond (ltb 512 len) 0 len) own) → Selected o len rs ops d (take n own)
 selected-front o len n rs ops d own e s = rw e s
 
@@ -143,15 +130,14 @@ duplex-roomy n d few wide =
     record { bases = omega (arith, wide .bases); quals = omega (arith, wide .quals); depths = omega (arith, wide .depths); errors = omega (arith, wide .errors) }
 
 -- the parts of one call, in the order of the code: the decision d and the fates own of selection, and the refusal r
-module _ (cols : Columns) (len : ℕ) (o : Options) (ops : List ℕ) (hasR1 : Bool) (r1 : Strand) (hasR2 : Bool) (r2 : Strand) (lent : Lent) (ledger : Ledger) (d : Decision) (own : List ℕ) (r : Refusal)
-    (selects : (rs : List Record) → (len ≤ 512 → Holds cols len rs) → Selected o len rs ops d own)
+module _ (len : ℕ) (o : Options) (hasR1 : Bool) (r1 : Strand) (hasR2 : Bool) (r2 : Strand) (lent : Lent) (ledger : Ledger) (d : Decision) (own : List ℕ) (r : Refusal)
     (refuses : r ≡ orElse (orElse (refusalIn d) (orElse (ofStrands hasR1 (widthsOf r1) (r1 .bases) hasR2 (widthsOf r2) (r2 .bases)) (refusedIf (tooNarrow (roomOf lent)) 9 0))) (ofCounts ledger))
-    (rs : List Record) (held : Held cols len rs) where
+    (rs : List Record) (ops : List ℕ) (size : length rs ≡ len) (selected : Selected o len rs ops d own) where
   abbrev call : Call
   call = callOf rs ops o hasR1 r1 hasR2 r2 lent
 
   decided : d ≡ selection call .decision
-  decided = rw (held .size) (selects rs (held .front) .decided)
+  decided = rw size (selected .decided)
 
   refusal-is : r ≡ refusal call ledger
   unfolding refusal ofCall
@@ -196,13 +182,13 @@ module _ (cols : Columns) (len : ℕ) (o : Options) (ops : List ℕ) (hasR1 : Bo
     lends = lendable (roomOf lent) (call-parts .2)
 
     pub few : len ≤ 512
-    few = rw (held .size) at (few-records call (call-parts .0))
+    few = rw size at (few-records call (call-parts .0))
 
     has-fates : Fated call
     has-fates = fated call (call-parts .0)
 
     own-is : own ≡ selection call .fates
-    own-is = rw (held .size) (selects rs (held .front) .fates-are few)
+    own-is = rw size (selected .fates-are few)
 
     short : frameOf d .length ≤ 2047
     short = rw decided (short-frame call (call-parts .0))
@@ -224,7 +210,7 @@ module _ (cols : Columns) (len : ℕ) (o : Options) (ops : List ℕ) (hasR1 : Bo
       settled-is = ap (λ (e : Ending). settled (fateBy e) own) ending-of ∙ ap (settled (fateBy (ending call))) own-is
 
       pub few-own : length own ≤ 512
-      few-own = omega (arith, length-settled (fateBy (v .ending)) own, ap length settled-is, has-fates .one-each, held .size, few)
+      few-own = omega (arith, length-settled (fateBy (v .ending)) own, ap length settled-is, has-fates .one-each, size, few)
 
       pub are-fates : AreFates (settled (fateBy (v .ending)) own)
       are-fates = rw settled-is (λ i h. has-fates .decided i (rw (← has-fates .one-each) h) .1)

@@ -1,7 +1,7 @@
 // The twelve result columns.
 use codec_framing::frame::Frame;
 use codec_framing::writing::write_duplex;
-use codec_select::options::Options;
+use codec_records::options::Options;
 use codec_strands::mask::Masks;
 ghost use mathlib.Core.Bool.{true};
 ghost use mathlib.Core.Path.{_≡_};

@@ -1,4 +1,5 @@
-// The family call, on the columns of a family's records.
+// The family call, on what selection chose among a family's records.
+use crate::choosing::Chosen;
 use crate::columns::write_columns;
 use caller::refusal::Refusal;
 use codec_family::answer::FamilyAnswer;
@@ -13,21 +14,18 @@ use codec_family::ending::is_called;
 use codec_family::refusal::refuse;
 use codec_family::room::Room;
 use codec_family::room::Widths;
+use codec_records::options::Options;
+use codec_records::room::room;
 use codec_rejects::fates::settle;
 use codec_rejects::rejects::count_marks;
 use codec_rejects::rejects::write_list;
 use codec_rejects::rejects::write_marks;
-use codec_select::alone::room;
-use codec_select::alone::select_records;
-use codec_select::columns::Columns;
-use codec_select::options::Options;
-use codec_select::selection::Decision;
 use codec_stats::ledger::Ledger;
 use codec_stats::ledger::add;
 ghost use mathlib.Core.Bool.{cond};
 ghost use mathlib.Core.List.{List};
 ghost use mathlib.Core.Path.{_≡_};
-ghost use Prim.Native.Nat.{_+_, _≤_};
+ghost use Prim.Native.Nat.{ℕ, _+_, _≤_};
 ghost use lib.Count.{ones};
 ghost use lib.Dec.{ltb};
 ghost use lib.ListN.{length, getD, take};
@@ -35,44 +33,16 @@ ghost use Rattle.lists.specs.Total.{total};
 ghost use Rattle.codec_duplex.specs.Columns.{strand};
 ghost use Rattle.codec_duplex.specs.Duplex.{duplex};
 ghost use Rattle.codec_rejects.specs.Fates.{AreFates, settled};
-ghost use Rattle.codec_select.specs.Records.{Holds};
-ghost use Rattle.codec_select.specs.declared.records.Record.{Record as AnyRecord};
+ghost use Rattle.codec_records.specs.declared.records.Record.{Record as AnyRecord};
 ghost use Rattle.codec_family.specs.Call.{lentOf, callOf};
 ghost use Rattle.codec_family.specs.FamilyCalled.{refusedAnswer, FamilyCalled};
 ghost use Rattle.codec_family.specs.Fates.{fateBy};
-ghost use Rattle.codec_caller.specs.Settling.{Selected, Settles};
+ghost use Rattle.codec_caller.specs.Settling.{Selected, Chose, Settles};
 
 // The length of the handover list, and what the call adds to the ledger.
 pub struct Settlement {
     pub listed: u64,
     pub counted: Ledger,
-}
-
-// The decision of steps 1 to 7, and the fates so far in the first places.
-pub struct Chosen {
-    pub decision: Decision,
-    pub fates: [u8; 512],
-}
-
-fn select_fates(columns: Columns, len: usize, ops: &[u32], options: Options) -> Chosen
-    ensures { λ r. ⌜ ((rs : List AnyRecord) → (len ≤ 512 → Holds columns len rs) → Selected options len rs (now (ops .entry)) (r .decision) (take (cond (ltb 512 len) 0 len) (r .fates))) ⌝ }
-    ensures { λ r. ⌜ length (r .fates) ≡ 512 ⌝ }
-{
-    let n = room(len);
-    let mut fates = [0u8; 512];
-    let mut r1 = [0usize; 256];
-    let mut r2 = [0usize; 256];
-    let sides = select_records(
-        columns,
-        len,
-        ops,
-        options,
-        &mut fates[..n],
-        &mut r1,
-        &mut r2,
-    );
-    let decision = sides.decision;
-    Chosen { decision, fates }
 }
 
 // The marks have a one for each listed record but those that were downsampled.
@@ -121,11 +91,10 @@ fn refused(number: u32, given: usize, ledger: Ledger) -> FamilyAnswer
     }
 }
 
-// All refusals come before anything is written. Where there are too many records the columns hold none of them.
+// All refusals come before anything is written.
 pub fn consensus_reads_raw(
-    columns: Columns,
+    chosen: Chosen,
     len: usize,
-    ops: &[u32],
     options: Options,
     has_r1: bool,
     r1_bases: &[u8],
@@ -154,9 +123,10 @@ pub fn consensus_reads_raw(
     reasons: &mut [u8],
     marks: &mut [u64],
 ) -> FamilyAnswer
-    ensures { λ r. ⌜ ((rs : List AnyRecord) → length rs ≡ len → (len ≤ 512 → Holds columns len rs) →
+    requires { ⌜ Chose options len chosen ⌝ }
+    ensures { λ r. ⌜ ((rs : List AnyRecord) (words : List ℕ) → length rs ≡ len → Selected options len rs words (chosen .decision) (take (cond (ltb 512 len) 0 len) (chosen .fates)) →
         FamilyCalled
-        (callOf rs (now (ops .entry)) options «has_r1» (strand (now («r1_bases» .entry)) (now («r1_quals» .entry)) (now («r1_depths» .entry)) (now («r1_errors» .entry))) «has_r2» (strand (now («r2_bases» .entry)) (now («r2_quals» .entry)) (now («r2_depths» .entry)) (now («r2_errors» .entry)))
+        (callOf rs words options «has_r1» (strand (now («r1_bases» .entry)) (now («r1_quals» .entry)) (now («r1_depths» .entry)) (now («r1_errors» .entry))) «has_r2» (strand (now («r2_bases» .entry)) (now («r2_quals» .entry)) (now («r2_depths» .entry)) (now («r2_errors» .entry)))
         (lentOf (duplex (now («d_bases» .entry)) (now («d_quals» .entry)) (now («d_depths» .entry)) (now («d_errors» .entry))) (strand (now («s1_bases» .entry)) (now («s1_quals» .entry)) (now («s1_depths» .entry)) (now («s1_errors» .entry))) (strand (now («s2_bases» .entry)) (now («s2_quals» .entry)) (now («s2_depths» .entry)) (now («s2_errors» .entry))) (now (listed .entry)) (now (reasons .entry)) (now (marks .entry))))
         ledger
         (lentOf (duplex (now («d_bases» .entry)) (now («d_quals» .entry)) (now («d_depths» .entry)) (now («d_errors» .entry))) (strand (now («s1_bases» .entry)) (now («s1_quals» .entry)) (now («s1_depths» .entry)) (now («s1_errors» .entry))) (strand (now («s2_bases» .entry)) (now («s2_quals» .entry)) (now («s2_depths» .entry)) (now («s2_errors» .entry))) (now (listed .entry)) (now (reasons .entry)) (now (marks .entry)))
@@ -164,7 +134,6 @@ pub fn consensus_reads_raw(
         (lentOf (duplex (now («d_bases» .exit)) (now («d_quals» .exit)) (now («d_depths» .exit)) (now («d_errors» .exit))) (strand (now («s1_bases» .exit)) (now («s1_quals» .exit)) (now («s1_depths» .exit)) (now («s1_errors» .exit))) (strand (now («s2_bases» .exit)) (now («s2_quals» .exit)) (now («s2_depths» .exit)) (now («s2_errors» .exit))) (now (listed .exit)) (now (reasons .exit)) (now (marks .exit)))) ⌝ }
 {
     let n = room(len);
-    let chosen = select_fates(columns, len, ops, options);
     let decision = chosen.decision;
     let mut fates = chosen.fates;
     let r1_widths = Widths {

@@ -20,9 +20,9 @@ use Rattle.codec_pairing.specs.Refusals.{gives, lowest, refusedBy, refusalOfRec
 use Rattle.codec_pairing.specs.declared.refusal.Cause.{Cause}
 use Rattle.codec_pairing.specs.declared.refusal.Cause.the-variants as causes
 use Rattle.codec_select.specs.Alignments.{alignmentsOf}
-use Rattle.codec_select.specs.Records.{column}
+use Rattle.codec_records.specs.Records.{column}
 use Rattle.codec_select.specs.Steps.{fatesOf}
-use Rattle.codec_select.specs.declared.records.Record.{Record}
+use Rattle.codec_records.specs.declared.records.Record.{Record}
 use Rattle.codec_stats.specs.Ledger.{fresh, recordCounters, otherCounts, withinLimit, tooLarge, full, ofCounts, plus}
 use Rattle.codec_stats.specs.declared.ledger.Ledger.{Ledger}
 use Rattle.codec_family.specs.Answer.{reported, saysRefused, REFUSED}

@@ -18,7 +18,7 @@ use Rattle.codec_framing.specs.Framing.{paddedR1, paddedR2, tallyOf}
 use Rattle.codec_framing.specs.declared.frame.Frame.{Frame}
 use Rattle.codec_framing.proofs.Tallies.{tallyOf-padded}
 use Rattle.codec_strands.proofs.Orientation.{length-bases-padded}
-use Rattle.codec_select.specs.declared.options.Options.{Options}
+use Rattle.codec_records.specs.declared.options.Options.{Options}
 use Rattle.codec_select.specs.declared.selection.Decision.{Decision}
 use Rattle.codec_select.specs.declared.selection.Decision.the-variants as decisions
 use Rattle.codec_family.specs.Call.{Call}

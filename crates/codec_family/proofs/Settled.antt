@@ -20,7 +20,7 @@ use Rattle.codec_duplex.specs.declared.tally.DuplexBaseTally.{DuplexBaseTally}
 use Rattle.codec_framing.specs.Framing.{tallyOf}
 use Rattle.codec_framing.specs.declared.frame.Frame.{Frame}
 use Rattle.codec_rejects.specs.Fates.{settled}
-use Rattle.codec_select.specs.declared.options.Options.{Options}
+use Rattle.codec_records.specs.declared.options.Options.{Options}
 use Rattle.codec_select.specs.declared.selection.Decision.{Decision}
 use Rattle.codec_select.specs.declared.selection.Decision.the-variants as decisions
 use Rattle.codec_family.specs.Call.{Call}

@@ -5,8 +5,8 @@ use Prim.Native.Nat.{ℕ}
 use lib.ListN.{length}
 use Rattle.codec_duplex.specs.Columns.{Strand}
 use Rattle.codec_duplex.specs.Duplex.{Duplex}
-use Rattle.codec_select.specs.declared.options.Options.{Options}
-use Rattle.codec_select.specs.declared.records.Record.{Record}
+use Rattle.codec_records.specs.declared.options.Options.{Options}
+use Rattle.codec_records.specs.declared.records.Record.{Record}
 use Rattle.codec_family.specs.declared.room.Room.{Room}
 use Rattle.codec_family.specs.declared.room.Widths.{Widths}
 

@@ -14,7 +14,7 @@ use Rattle.codec_framing.specs.Framing as framing
 use Rattle.codec_framing.specs.declared.frame.Frame.{Frame}
 use Rattle.codec_select.specs.Selection.{courseOf}
 use Rattle.codec_select.specs.Steps.{Course}
-use Rattle.codec_select.specs.declared.options.Options.{Options}
+use Rattle.codec_records.specs.declared.options.Options.{Options}
 use Rattle.codec_select.specs.declared.selection.Decision.{Decision}
 use Rattle.codec_select.specs.declared.selection.Decision.the-variants as decisions
 use Rattle.codec_family.specs.Call.{Call}

@@ -9,9 +9,9 @@ use Rattle.caller.specs.Refusals.{orElse, refusedIf}
 use Rattle.caller.specs.declared.refusal.Refusal.{Refusal}
 use Rattle.caller.specs.declared.refusal.Refusal.the-variants as refusals
 use Rattle.codec_select.specs.Alignments.{alignmentsOf}
-use Rattle.codec_select.specs.Records.{column}
+use Rattle.codec_records.specs.Records.{column}
 use Rattle.codec_select.specs.Steps.{refusalOf, fatesOf}
-use Rattle.codec_select.specs.declared.records.Record.{Record}
+use Rattle.codec_records.specs.declared.records.Record.{Record}
 use Rattle.codec_select.specs.declared.selection.Decision.{Decision}
 use Rattle.codec_select.specs.declared.selection.Decision.the-variants as decisions
 use Rattle.codec_stats.specs.Ledger.{Counts, ofCounts}

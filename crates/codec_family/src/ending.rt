@@ -8,7 +8,7 @@ use codec_duplex::limits::judge;
 use codec_duplex::tally::DuplexBaseTally;
 use codec_framing::frame::Frame;
 use codec_framing::tallying::tally_strands;
-use codec_select::options::Options;
+use codec_records::options::Options;
 use codec_select::selection::Decision;
 ghost use mathlib.Core.Path.{_≡_};
 ghost use Prim.Native.Nat.{_≤_};

@@ -1,16 +1,9 @@
-// The exported call.
-use crate::answer::CombineAnswer;
-use crate::answer::report;
-use crate::columns::combine_bytes;
-use crate::columns::even_lengths;
-use codec_duplex::columns::columns_fit;
-use codec_duplex::limits::DuplexAnswer;
-use codec_duplex::limits::is_duplex;
-use codec_duplex::limits::judge;
-use codec_duplex::tally::tally;
+// The combining step through numbers and byte slices, exported.
+use duplex_bytes::answer::CombineAnswer;
+use duplex_bytes::combining::build_duplex_consensus_from_bytes;
 ghost use Rattle.codec_duplex.specs.Columns.{strand};
 ghost use Rattle.codec_duplex.specs.Duplex.{duplex};
-ghost use Rattle.codec_ffi.specs.Bytes.{CombiningBytes};
+ghost use Rattle.duplex_bytes.specs.Bytes.{CombiningBytes};
 
 // Depths and errors are byte pairs, low byte first; every base byte is accepted.
 #[no_mangle]
@@ -39,48 +32,20 @@ pub extern "C" fn codec_ffi_combine(
         (duplex (now (bases .exit)) (now (quals .exit)) (now (depths .exit)) (now (errors .exit)))
         ⌝ }
 {
-    let even = even_lengths(
-        a_depths.len(),
-        a_errors.len(),
-        b_depths.len(),
-        b_errors.len(),
-        depths.len(),
-        errors.len(),
-    );
-    let fit = columns_fit(
-        a_bases.len(),
-        a_quals.len(),
-        a_depths.len() / 2,
-        a_errors.len() / 2,
-        b_bases.len(),
-        b_quals.len(),
-        b_depths.len() / 2,
-        b_errors.len() / 2,
-        bases.len(),
-        quals.len(),
-        depths.len() / 2,
-        errors.len() / 2,
-    );
-    if !(even & fit) {
-        return report(DuplexAnswer::Refused);
-    }
-    let answer = judge(tally(a_bases, b_bases), max_disagreements, max_rate);
-    if is_duplex(answer) {
-        combine_bytes(
-            a_bases,
-            a_quals,
-            a_depths,
-            a_errors,
-            b_bases,
-            b_quals,
-            b_depths,
-            b_errors,
-            bases,
-            quals,
-            depths,
-            errors,
-        );
-        return report(answer);
-    }
-    report(answer)
+    build_duplex_consensus_from_bytes(
+        a_bases,
+        a_quals,
+        a_depths,
+        a_errors,
+        b_bases,
+        b_quals,
+        b_depths,
+        b_errors,
+        max_disagreements,
+        max_rate,
+        bases,
+        quals,
+        depths,
+        errors,
+    )
 }

@@ -1,10 +1,9 @@
 // The family call, for Rust and C hosts.
+use crate::choose::choose;
 use codec_family::answer::FamilyAnswer;
+use codec_records::options::Options;
+use codec_records::records::Record;
 use codec_samples::family::consensus_reads_sampled;
-use codec_select::alone::room;
-use codec_select::options::Options;
-use codec_select::records::Record;
-use codec_select::records::gather;
 use codec_stats::ledger::Ledger;
 ghost use Rattle.codec_duplex.specs.Columns.{strand};
 ghost use Rattle.codec_duplex.specs.Duplex.{duplex};
@@ -62,12 +61,10 @@ pub extern "C" fn codec_ffi_family(
         ⌝ }
 {
     let len = records.len();
-    let n = room(len);
-    let columns = gather(records, n);
+    let chosen = choose(records, ops, options);
     consensus_reads_sampled(
-        columns,
+        chosen,
         len,
-        ops,
         options,
         has_r1,
         r1_bases,

@@ -14,8 +14,8 @@ use Rattle.lists.proofs.Tabulate.{length-tabulate}
 use Rattle.lists.proofs.Total.{total-append, total-map}
 use Rattle.lists.proofs.Written.{take-written}
 use Rattle.caller.specs.Fates.{isMarked}
-use Rattle.codec_select.specs.Marks.{wordOf, wordAt, marks}
-use Rattle.codec_select.proofs.Words.{bit-below, mark-at}
+use Rattle.codec_records.specs.Marks.{wordOf, wordAt, marks}
+use Rattle.codec_records.proofs.Words.{bit-below, mark-at}
 use Rattle.codec_rejects.specs.Fates.{markedRejections}
 use Rattle.codec_rejects.specs.Handover.{markWords}
 

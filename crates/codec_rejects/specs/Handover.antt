@@ -4,7 +4,7 @@ use Prim.Native.Nat.{ℕ}
 use lib.ListN.{length, getD}
 use Rattle.lists.specs.Numbers.{numbersFrom}
 use Rattle.caller.specs.Fates.{isRejection, isMarked}
-use Rattle.codec_select.specs.Marks.{marks}
+use Rattle.codec_records.specs.Marks.{marks}
 
 -- 'Marks are one bit a record in eight 64-bit words', of the rejections other than Downsampled
 unfoldable pub markWords : (fates : List ℕ) → List ℕ

@@ -1,7 +1,7 @@
 // The marks and the handover list of a family, read off its fates.
 use caller::fates::is_marked;
 use caller::fates::is_rejection;
-use codec_select::marks::marks_of;
+use codec_records::marks::marks_of;
 ghost use mathlib.Core.List.{map};
 ghost use mathlib.Core.Path.{_≡_};
 ghost use Prim.Native.Nat.{_≤_};

@@ -1,23 +1,25 @@
-// The family call with its sample, on the columns of a family's records.
+// The family call with its sample, on what selection chose among a family's records.
 use crate::books::deciding_ledger;
 use crate::books::keep_books;
+use codec_caller::choosing::Chosen;
 use codec_caller::family::consensus_reads_raw;
 use codec_family::answer::FamilyAnswer;
 use codec_family::answer::report;
 use codec_family::ending::Ending;
-use codec_select::columns::Columns;
-use codec_select::options::Options;
+use codec_records::options::Options;
 use codec_stats::ledger::Ledger;
 use sample_ledgers::samples::ledger_in;
+ghost use mathlib.Core.Bool.{cond};
 ghost use mathlib.Core.List.{List};
 ghost use mathlib.Core.Path.{_≡_};
-ghost use Prim.Native.Nat.{_≤_};
-ghost use lib.ListN.{length};
+ghost use Prim.Native.Nat.{ℕ};
+ghost use lib.Dec.{ltb};
+ghost use lib.ListN.{length, take};
 ghost use Rattle.codec_duplex.specs.Columns.{strand};
 ghost use Rattle.codec_duplex.specs.Duplex.{duplex};
-ghost use Rattle.codec_select.specs.Records.{Holds};
-ghost use Rattle.codec_select.specs.declared.records.Record.{Record as AnyRecord};
+ghost use Rattle.codec_records.specs.declared.records.Record.{Record as AnyRecord};
 ghost use Rattle.codec_family.specs.Call.{lentOf, callOf};
+ghost use Rattle.codec_caller.specs.Settling.{Selected, Chose};
 ghost use Rattle.sample_ledgers.specs.Samples.{samplesOf};
 ghost use Rattle.codec_samples.specs.Books.{booksOf};
 ghost use Rattle.codec_samples.specs.SampledCall.{sampledCallOf};
@@ -25,9 +27,8 @@ ghost use Rattle.codec_samples.specs.SampledFamily.{SampledFamilyCalled}
 
 // What the call counts is added to the run's ledger and to its own sample's; 20 comes before all else.
 pub fn consensus_reads_sampled(
-    columns: Columns,
+    chosen: Chosen,
     len: usize,
-    ops: &[u32],
     options: Options,
     has_r1: bool,
     r1_bases: &[u8],
@@ -58,9 +59,10 @@ pub fn consensus_reads_sampled(
     reasons: &mut [u8],
     marks: &mut [u64],
 ) -> FamilyAnswer
-    ensures { λ r. ⌜ ((rs : List AnyRecord) → length rs ≡ len → (len ≤ 512 → Holds columns len rs) →
+    requires { ⌜ Chose options len chosen ⌝ }
+    ensures { λ r. ⌜ ((rs : List AnyRecord) (words : List ℕ) → length rs ≡ len → Selected options len rs words (chosen .decision) (take (cond (ltb 512 len) 0 len) (chosen .fates)) →
         SampledFamilyCalled
-        (sampledCallOf (callOf rs (now (ops .entry)) options «has_r1» (strand (now («r1_bases» .entry)) (now («r1_quals» .entry)) (now («r1_depths» .entry)) (now («r1_errors» .entry))) «has_r2» (strand (now («r2_bases» .entry)) (now («r2_quals» .entry)) (now («r2_depths» .entry)) (now («r2_errors» .entry)))
+        (sampledCallOf (callOf rs words options «has_r1» (strand (now («r1_bases» .entry)) (now («r1_quals» .entry)) (now («r1_depths» .entry)) (now («r1_errors» .entry))) «has_r2» (strand (now («r2_bases» .entry)) (now («r2_quals» .entry)) (now («r2_depths» .entry)) (now («r2_errors» .entry)))
         (lentOf (duplex (now («d_bases» .entry)) (now («d_quals» .entry)) (now («d_depths» .entry)) (now («d_errors» .entry))) (strand (now («s1_bases» .entry)) (now («s1_quals» .entry)) (now («s1_depths» .entry)) (now («s1_errors» .entry))) (strand (now («s2_bases» .entry)) (now («s2_quals» .entry)) (now («s2_depths» .entry)) (now («s2_errors» .entry))) (now (listed .entry)) (now (reasons .entry)) (now (marks .entry)))) «sample»)
         (booksOf ledger (now («samples» .entry)))
         (lentOf (duplex (now («d_bases» .entry)) (now («d_quals» .entry)) (now («d_depths» .entry)) (now («d_errors» .entry))) (strand (now («s1_bases» .entry)) (now («s1_quals» .entry)) (now («s1_depths» .entry)) (now («s1_errors» .entry))) (strand (now («s2_bases» .entry)) (now («s2_quals» .entry)) (now («s2_depths» .entry)) (now («s2_errors» .entry))) (now (listed .entry)) (now (reasons .entry)) (now (marks .entry)))
@@ -79,9 +81,8 @@ pub fn consensus_reads_sampled(
     let own = ledger_in(samples, at);
     let deciding = deciding_ledger(ledger, own);
     let answer = consensus_reads_raw(
-        columns,
+        chosen,
         len,
-        ops,
         options,
         has_r1,
         r1_bases,

@@ -11,12 +11,13 @@ use Rattle.caller.specs.Reasons.{numberOf}
 use Rattle.caller.specs.declared.reason.RejectionReason.the-variants.{Downsampled}
 use Rattle.codec_select.specs.Alignments.{Alignments, Admissible, Formed, Sided, EnteredAdmissible}
 use Rattle.codec_pairing.specs.Pairing.{sideR1, sideR2}
-use Rattle.codec_select.specs.Side.{Below, kept, dropped, underCap, givenFate}
-use Rattle.codec_select.specs.Steps.{Fills, isInGroup, grouped, capIsZero, capped, withExcess}
-use Rattle.codec_select.specs.declared.options.Options.{Options}
+use Rattle.codec_records.specs.Records.{Below}
+use Rattle.codec_sides.specs.Side.{kept, dropped, underCap, givenFate, Fills, capped, withExcess}
+use Rattle.codec_select.specs.Steps.{isInGroup, grouped, capIsZero}
+use Rattle.codec_records.specs.declared.options.Options.{Options}
 use Rattle.codec_pairing.proofs.Entered.{length-sideR2, sides-half, sideR1-entered, sideR2-entered}
-use Rattle.codec_select.proofs.Keeping.{length-kept, kept-each, length-givenFate}
-use Rattle.codec_select.proofs.Remaining.{group-nonempty, cap-nonempty}
+use Rattle.codec_sides.proofs.Keeping.{length-kept, kept-each, length-givenFate}
+use Rattle.codec_sides.proofs.Remaining.{group-nonempty, cap-nonempty}
 use borrow.Author.Tests.{eqb-false}
 
 kept-formed : (a : Alignments) (side : List ℕ) (stays : List Bool) → Formed a side → 0 < length (kept side stays) → Formed a (kept side stays)

@@ -1,14 +1,5 @@
 pub mod Admitting
-pub mod Answering
 pub mod Formed
-pub mod Gathered
-pub mod Holding
-pub mod Keeping
 pub mod Measured
-pub mod Most
-pub mod Outcomes
-pub mod Remaining
-pub mod Rows
 pub mod Settled
 pub mod Sound
-pub mod Words

@@ -1,14 +1,13 @@
 -- A family that is kept has a length of 1 to 2,047.
 use mathlib.Core.Bool.{_||_}
-use mathlib.Core.List.{List, [], _∷_, map}
+use mathlib.Core.List.{List}
 use mathlib.Core.Path.{_≡_, refl, sym, _∙_}
-use Prim.Native.Nat.{ℕ, zero, suc, _≤_, _<_, max}
-use native.Mathlib.Decide.{decLe}
+use Prim.Native.Nat.{ℕ, _≤_, _<_}
 use native.Mathlib.Omega.{arith}
-use borrow.Author.Tests.{eqb-false, eq-eqb}
+use borrow.Author.Tests.{eqb-false}
 use lib.Dec.{eqb}
 use lib.IntN.{ℤ}
-use lib.ListN.{length, getD, length-map}
+use lib.ListN.{length, length-map}
 use Rattle.lists.proofs.Cases.{cond-cases, or-neither}
 use Rattle.caller.specs.declared.refusal.Refusal.the-variants.{NoRefusal}
 use Rattle.codec_window.proofs.Lengths.{kept-measured}
@@ -18,46 +17,18 @@ use Rattle.codec_window.specs.declared.window.Overlap.the-variants as overlaps
 use Rattle.codec_pairing.specs.Pairing.{sideR1, sideR2}
 use Rattle.codec_pairing.specs.Refusals.{Alike, reads}
 use Rattle.codec_select.specs.Alignments.{Alignments, alignmentOf, alignmentsOf, Formed}
-use Rattle.codec_select.specs.Records.{column}
+use Rattle.codec_records.specs.Records.{column}
 use Rattle.codec_select.specs.Selection.{courseOf}
-use Rattle.codec_select.specs.Side.{most, placeOf, placeOfMost, longestOf, referenceBasesOf}
-use Rattle.codec_select.specs.Steps.{Course, tooFew, capIsZero, grouped, capped, longestRecord, isNegative, decisionOf, overlapping, fromWindow, fromCap, fromSides, fatesOf, refusalOf, selected}
-use Rattle.codec_select.specs.declared.options.Options.{Options}
-use Rattle.codec_select.specs.declared.records.Record.{Record}
+use Rattle.codec_sides.specs.Side.{longestOf, capped}
+use Rattle.codec_select.specs.Steps.{Course, tooFew, capIsZero, grouped, longestRecord, isNegative, decisionOf, overlapping, fromWindow, fromCap, fromSides, fatesOf, refusalOf, selected}
+use Rattle.codec_records.specs.declared.options.Options.{Options}
+use Rattle.codec_records.specs.declared.records.Record.{Record}
 use Rattle.codec_select.specs.declared.selection.Decision.{Decision}
 use Rattle.codec_select.specs.declared.selection.Decision.the-variants as decisions
+use Rattle.codec_sides.proofs.Most.{longest-within}
 use Rattle.codec_select.proofs.Admitting.{entered-admissible}
 use Rattle.codec_select.proofs.Formed.{grouped-formed, capped-formed, sideR1-formed, sideR2-formed}
 use Rattle.codec_select.proofs.Sound.{within-limits}
-
--- a number that stands in a list has a place in it
-place-within : (x : ℕ) (xs : List ℕ) (k : ℕ) → k < length xs → getD xs k 0 ≡ x → placeOf x xs < length xs
-unfolding placeOf
-place-within x [] k h e = absurd (omega arith)
-place-within x (y ∷ ys) zero h e = rw (eq-eqb y x e) (omega arith)
-place-within x (y ∷ ys) (suc k) h e = cond-cases (λ place. place < suc (length ys)) (eqb y x) (λ _. omega arith) (λ _. omega (arith, place-within x ys k (omega arith) e))
-
--- the largest of a list stands in it
-most-at : (x : ℕ) (xs : List ℕ) → (k : ℕ) × (k < length (x ∷ xs)) × (getD (x ∷ xs) k 0 ≡ most (x ∷ xs))
-unfolding most
-most-at x [] = (0, omega arith, omega arith)
-most-at x (y ∷ ys) = go (decLe (max y (most ys)) x) (most-at y ys)
-  where
-    go : Dec (max y (most ys) ≤ x) → (k : ℕ) × (k < length (y ∷ ys)) × (getD (y ∷ ys) k 0 ≡ max y (most ys))
-        → (k : ℕ) × (k < length (x ∷ y ∷ ys)) × (getD (x ∷ y ∷ ys) k 0 ≡ max x (max y (most ys)))
-    go (yes less) rest = (0, omega arith, omega arith)
-    go (no more) rest = (suc (rest .0), omega (arith, rest .1), rest .2 ∙ omega (arith, more))
-
-most-within : (xs : List ℕ) → 0 < length xs → placeOfMost xs < length xs
-unfolding placeOfMost
-most-within [] some = absurd (omega arith)
-most-within (x ∷ xs) some = let at = most-at x xs in place-within (most (x ∷ xs)) (x ∷ xs) (at .0) (at .1) (at .2)
-
-pub longest-within : (ops starts counts side : List ℕ) → 0 < length side → longestOf ops starts counts side < length side
-unfolding longestOf
-longest-within ops starts counts side some =
-    let size = length-map side (referenceBasesOf ops starts counts) in
-    rw size at (most-within (map (referenceBasesOf ops starts counts) side) (rw size some))
 
 -- the length of what is kept
 abbrev pub Measured : Decision → Type 0

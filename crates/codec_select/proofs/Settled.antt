@@ -22,15 +22,15 @@ use Rattle.codec_pairing.specs.Refusals.{isUndecided}
 use Rattle.codec_pairing.proofs.Entered.{entered-in}
 use Rattle.codec_pairing.proofs.Undecided.{undecided-entered}
 use Rattle.codec_select.specs.Alignments.{Alignments, alignmentOf, alignmentsOf}
-use Rattle.codec_select.specs.Records.{column}
+use Rattle.codec_records.specs.Records.{column}
 use Rattle.codec_select.specs.Selection.{courseOf}
-use Rattle.codec_select.specs.Side.{givenFate, underCap, dropped}
-use Rattle.codec_select.specs.Steps.{Course, tooFew, capIsZero, isInGroup, withMinority, withExcess, grouped, capped, longestRecord, isNegative, decisionOf, overlapping, fromWindow, fromCap, fromSides, fatesOf, refusalOf, selected}
-use Rattle.codec_select.specs.declared.options.Options.{Options}
-use Rattle.codec_select.specs.declared.records.Record.{Record}
+use Rattle.codec_sides.specs.Side.{givenFate, underCap, dropped, withExcess, capped}
+use Rattle.codec_select.specs.Steps.{Course, tooFew, capIsZero, isInGroup, withMinority, grouped, longestRecord, isNegative, decisionOf, overlapping, fromWindow, fromCap, fromSides, fatesOf, refusalOf, selected}
+use Rattle.codec_records.specs.declared.options.Options.{Options}
+use Rattle.codec_records.specs.declared.records.Record.{Record}
 use Rattle.codec_select.specs.declared.selection.Decision.{Decision}
 use Rattle.codec_select.specs.declared.selection.Decision.the-variants as decisions
-use Rattle.codec_select.proofs.Keeping.{length-givenFate, getD-givenFate}
+use Rattle.codec_sides.proofs.Keeping.{length-givenFate, getD-givenFate}
 
 -- a fate so far: undecided, a reason, or passed over
 abbrev pub SoFar : ℕ → List ℕ → Type 0

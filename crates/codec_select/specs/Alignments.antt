@@ -6,10 +6,10 @@ use Prim.Native.Nat.{ℕ, _≤_, _<_}
 use lib.IntN.{ℤ}
 use lib.ListN.{length, getD, take}
 use Rattle.codec_pairing.specs.Pairing.{isEntered}
-use Rattle.codec_select.specs.Records.{column}
-use Rattle.codec_select.specs.Side.{Below, HasOperations, operationsOf}
+use Rattle.codec_records.specs.Records.{column, Below}
+use Rattle.codec_sides.specs.Side.{HasOperations, operationsOf}
 use Rattle.codec_window.specs.Window.{Alignment, Admitted}
-use Rattle.codec_select.specs.declared.records.Record.{Record}
+use Rattle.codec_records.specs.declared.records.Record.{Record}
 
 pub record Alignments : Type 0 where
   pub flags : List ℕ

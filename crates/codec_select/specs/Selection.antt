@@ -1,31 +1,13 @@
--- Document 01, 'Selection alone': what the call answers.
+-- Document 01, 'Selection alone': what the steps make of a family's records.
 use mathlib.Core.List.{List}
-use mathlib.Core.Path.{_≡_}
-use Prim.Native.Nat.{ℕ, _≤_}
-use lib.ListN.{length}
+use Prim.Native.Nat.{ℕ}
+use Rattle.codec_records.specs.Records.{column}
+use Rattle.codec_records.specs.declared.options.Options.{Options}
+use Rattle.codec_records.specs.declared.records.Record.{Record}
 use Rattle.codec_select.specs.Alignments.{alignmentsOf}
-use Rattle.codec_select.specs.Marks.{marks, sideFlags}
-use Rattle.codec_select.specs.Records.{column}
-use Rattle.codec_select.specs.Steps.{Course, Fills, selected}
-use Rattle.codec_select.specs.declared.options.Options.{Options}
-use Rattle.codec_select.specs.declared.records.Record.{Record}
-use Rattle.codec_select.specs.declared.selection.Selection.{Selection}
-use Rattle.codec_select.specs.declared.selection.Sides.{Sides}
+use Rattle.codec_select.specs.Steps.{Course, selected}
 
--- steps 1 to 7 of a family's records; how many they are is given beside them, since a table has room for 512
+-- steps 1 to 7 of a family's records; how many they are is given beside them, since the columns have room for 512
 abbrev pub courseOf : Options → ℕ → List Record → List ℕ → Course
 courseOf o count records ops =
     selected o count (column Record.name records) (column Record.verdict records) (column Record.rank records) (alignmentsOf records ops)
-
--- what a call that lends its fates and sides gives of a family of some number of records; too many have no room for their fates
-pub record SelectsInto (o : Options) (count : ℕ) (records : List Record) (ops : List ℕ) (sides : Sides) (fates r1 r2 : List ℕ) : Type 0 where
-  pub decision : sides .decision ≡ courseOf o count records ops .decision
-  pub fates-are : count ≤ 512 → fates ≡ courseOf o count records ops .fates
-  pub r1-fills : Fills (courseOf o count records ops .r1) (sides .r1) r1
-  pub r2-fills : Fills (courseOf o count records ops .r2) (sides .r2) r2
-
--- each part of the answer
-pub record Selects (o : Options) (count : ℕ) (records : List Record) (ops : List ℕ) (answer : Selection) : Type 0 where
-  pub decision : answer .decision ≡ courseOf o count records ops .decision
-  pub r1 : answer .r1 ≡ marks (sideFlags (courseOf o count records ops .r1) (length records))
-  pub r2 : answer .r2 ≡ marks (sideFlags (courseOf o count records ops .r2) (length records))

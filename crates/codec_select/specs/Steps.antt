@@ -5,17 +5,17 @@ use mathlib.Core.Path.{_≡_}
 use Prim.Native.Nat.{ℕ}
 use lib.Dec.{eqb, ltb}
 use lib.IntN.{ℤ}
-use lib.ListN.{length, getD, take}
+use lib.ListN.{length, getD}
 use Rattle.lists.specs.Tabulate.{tabulate}
 use Rattle.caller.specs.Reasons.{numberOf}
-use Rattle.caller.specs.declared.reason.RejectionReason.the-variants.{InsufficientReads, MinorityAlignment, Downsampled}
+use Rattle.caller.specs.declared.reason.RejectionReason.the-variants.{InsufficientReads, MinorityAlignment}
 use Rattle.raw_bam.specs.Flags.{REVERSE, hasFlag}
 use Rattle.codec_select.specs.Alignments.{Alignments, alignmentOf}
 use Rattle.codec_pairing.specs.Pairing.{fateOf, sideR1, sideR2}
 use Rattle.codec_pairing.specs.Refusals.{reads, firstRefusal}
-use Rattle.codec_select.specs.Side.{inGroup, underCap, kept, dropped, givenFate, longestOf}
+use Rattle.codec_sides.specs.Side.{inGroup, kept, dropped, givenFate, capped, withExcess, longestOf, Fills}
 use Rattle.codec_window.specs.Window.{overlap}
-use Rattle.codec_select.specs.declared.options.Options.{Options}
+use Rattle.codec_records.specs.declared.options.Options.{Options}
 use Rattle.codec_select.specs.declared.overlapping.Longest.{Longest}
 use Rattle.caller.specs.declared.refusal.Refusal.{Refusal}
 use Rattle.caller.specs.declared.refusal.Refusal.the-variants as refusals
@@ -53,17 +53,6 @@ withMinority a side fates = givenFate (numberOf MinorityAlignment) (dropped side
 -- step 5: 'Cap 0'
 abbrev pub capIsZero : Options → Bool
 capIsZero o = o .«has_max_reads_per_strand» && eqb (o .«max_reads_per_strand») 0
-
--- the records of a side under the cap, where there is one
-unfoldable pub capped : Options → List ℤ → List ℕ → List ℕ
-capped o ranks side = cond (o .«has_max_reads_per_strand») (kept side (underCap ranks (o .«max_reads_per_strand») side)) side
-
--- the excess is Downsampled
-unfoldable pub withExcess : Options → List ℤ → List ℕ → List ℕ → List ℕ
-withExcess o ranks side fates =
-    cond (o .«has_max_reads_per_strand»)
-    (givenFate (numberOf Downsampled) (dropped side (underCap ranks (o .«max_reads_per_strand») side)) fates)
-    fates
 
 -- step 6: the longest record of a side
 unfoldable pub longestRecord : Alignments → List ℕ → ℕ
@@ -140,11 +129,6 @@ unfoldable pub selected : Options → ℕ → List ℕ → List Bool → List �
 selected o records names verdicts ranks a =
     unlessRefused (refusalOf o records (fatesOf (a .flags) names verdicts) a) (fatesOf (a .flags) names verdicts)
     (fromSides o ranks a (sideR1 (a .flags) names verdicts) (sideR2 (a .flags) names verdicts) (fatesOf (a .flags) names verdicts))
-
--- a list fills the first n places of a column
-pub record Fills (xs : List ℕ) (n : ℕ) (column : List ℕ) : Type 0 where
-  pub count : n ≡ length xs
-  pub front : take n column ≡ xs
 
 -- an outcome: the decision, the fates, and each side in the first places of a column
 pub record CourseIn (outcome : Course) (sides : Sides) (fates r1 r2 : List ℕ) : Type 0 where

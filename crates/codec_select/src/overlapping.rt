@@ -1,8 +1,8 @@
 // Steps 6 and 7 of the two sides: the longest record of each, and what they share.
-use crate::longest::longest_of;
-use crate::longest::operations_of;
-use crate::options::Options;
 use crate::selection::Decision;
+use codec_records::options::Options;
+use codec_sides::longest::longest_of;
+use codec_sides::longest::operations_of;
 use codec_window::window::Aligned;
 use codec_window::window::Overlap;
 use codec_window::window::overlap_of;

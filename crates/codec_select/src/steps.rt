@@ -1,7 +1,4 @@
 // Steps 1 to 7 of a family whose records are columns.
-use crate::dropping::keep_group;
-use crate::dropping::keep_lowest_ranking;
-use crate::options::Options;
 use crate::overlapping::overlap_of_sides;
 use crate::selection::Decision;
 use crate::selection::Sides;
@@ -10,6 +7,9 @@ use caller::refusal::Refusal;
 use codec_pairing::pairing::write_fates;
 use codec_pairing::pairing::write_sides;
 use codec_pairing::refusal::first_refusal;
+use codec_records::options::Options;
+use codec_sides::dropping::keep_group;
+use codec_sides::dropping::keep_lowest_ranking;
 ghost use mathlib.Core.Bool.{cond, _||_};
 ghost use mathlib.Core.Path.{_≡_};
 ghost use Prim.Native.Nat.{_≤_, _<_, _^_};

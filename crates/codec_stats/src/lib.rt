@@ -2,3 +2,4 @@
 pub mod ledger;
 pub mod rates;
 pub mod refusals;
+pub mod report;

@@ -15,13 +15,13 @@ use Rattle.codec_family.specs.declared.answer.FamilyAnswer.{FamilyAnswer}
 use Rattle.codec_samples.specs.Books.{Books}
 use Rattle.codec_samples.specs.SampledCall.{sampledCallOf}
 use Rattle.codec_samples.specs.SampledFamily.{SampledFamilyCalled}
+use Rattle.line_text.specs.Reading.{Steps, linesFrom}
+use Rattle.line_text.specs.declared.lines.Next.{Next}
+use Rattle.line_text.specs.declared.lines.Stop.{Stop}
+use Rattle.ledger_lines.specs.Ledgers.{ledgersFrom}
+use Rattle.ledger_lines.specs.declared.settings.Handed.{Handed}
+use Rattle.record_lines.specs.declared.header.Header.{Header}
 use Rattle.family_text.specs.Family.{Family}
-use Rattle.family_text.specs.Ledgers.{ledgersFrom}
-use Rattle.family_text.specs.Reading.{Steps, linesFrom}
-use Rattle.family_text.specs.declared.header.Header.{Header}
-use Rattle.family_text.specs.declared.lines.Next.{Next}
-use Rattle.family_text.specs.declared.lines.Stop.{Stop}
-use Rattle.family_text.specs.declared.settings.Handed.{Handed}
 use Rattle.family_windows.proofs.Stops.{stopped-next}
 use Rattle.family_windows.specs.Places.{stopped}
 use Rattle.family_windows.specs.declared.windows.Reached.the-variants.{Until, Malformed}

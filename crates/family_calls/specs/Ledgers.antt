@@ -8,16 +8,16 @@ use lib.ListN.{take, replicate}
 use Rattle.codec_family.specs.Call.{Call}
 use Rattle.codec_family.specs.declared.room.Room.{Room}
 use Rattle.codec_family.specs.declared.room.Widths.{Widths}
-use Rattle.codec_select.specs.Records.{blank}
-use Rattle.codec_select.specs.declared.records.Record.{Record}
+use Rattle.codec_records.specs.Records.{blank}
+use Rattle.codec_records.specs.declared.records.Record.{Record}
 use Rattle.codec_samples.specs.Books.{Books, booksOf}
 use Rattle.codec_samples.specs.SampledCall.{SampledCall, sampledCallOf, afterSampled}
 use Rattle.codec_stats.specs.Ledger.{Counts}
+use Rattle.line_text.specs.Reading.{got}
+use Rattle.ledger_lines.specs.Ledgers.{ledgersFrom}
+use Rattle.ledger_lines.specs.declared.settings.Handed.{Handed}
+use Rattle.record_lines.specs.declared.header.Header.{Header}
 use Rattle.family_text.specs.Family.{Family, call, noMore, callOf}
-use Rattle.family_text.specs.Ledgers.{ledgersFrom}
-use Rattle.family_text.specs.Reading.{got}
-use Rattle.family_text.specs.declared.header.Header.{Header}
-use Rattle.family_text.specs.declared.settings.Handed.{Handed}
 use Rattle.sample_ledgers.specs.Samples.{samplesOf}
 use Rattle.table_text.specs.Parts.{Parts}
 

@@ -4,8 +4,8 @@ use mathlib.Core.List.{List}
 use mathlib.Core.Path.{_≡_}
 use Prim.Native.Nat.{ℕ, _≤_}
 use Rattle.codec_family.specs.declared.answer.FamilyAnswer.{FamilyAnswer}
-use Rattle.family_text.specs.Reading.{linesFrom, stopPlace}
-use Rattle.family_text.specs.declared.settings.Handed.{Handed}
+use Rattle.line_text.specs.Reading.{linesFrom, stopPlace}
+use Rattle.ledger_lines.specs.declared.settings.Handed.{Handed}
 use Rattle.family_windows.specs.Places.{Onward}
 use Rattle.family_windows.specs.declared.windows.Reached.{Reached}
 use Rattle.family_windows.specs.declared.windows.Reached.the-variants as reached

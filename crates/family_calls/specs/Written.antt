@@ -5,7 +5,7 @@ use Rattle.answer_text.specs.FamilyText.{familyText}
 use Rattle.answer_text.specs.SampleText.{sampleText}
 use Rattle.codec_family.specs.Call.{Lent}
 use Rattle.codec_family.specs.declared.answer.FamilyAnswer.{FamilyAnswer}
-use Rattle.family_text.specs.declared.settings.Handed.{Handed}
+use Rattle.ledger_lines.specs.declared.settings.Handed.{Handed}
 use Rattle.handover_text.specs.Handover.{handoverText}
 use Rattle.family_calls.specs.declared.form.Form.{Form}
 use Rattle.family_calls.specs.declared.form.Form.the-variants.{Answers, Handover, Sheet}

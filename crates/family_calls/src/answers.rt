@@ -1,14 +1,14 @@
 // The families of a window, one after the other, and what the family call answers to each.
 use crate::calls;
 use crate::form::Form;
-use family_text::column;
 use family_text::family;
 use family_text::family::Ending;
-use family_text::ledgers;
-use family_text::lines::Stop;
-use family_text::settings::Handed;
 use family_windows::windows;
 use family_windows::windows::Reached;
+use ledger_lines::ledgers;
+use ledger_lines::settings::Handed;
+use line_text::lines::Stop;
+use strand_lines::column;
 ghost use mathlib.Core.Path.{_≡_};
 ghost use Prim.Native.Nat.{_+_, _^_, _≤_, _<_};
 ghost use lib.ListN.{length};

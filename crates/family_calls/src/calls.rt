@@ -1,23 +1,23 @@
 // One family: the family call, lent as much as its header says, and the writing of its answer.
 use crate::form::Form;
 use crate::writing;
+use codec_caller::choosing::select_fates;
 use codec_family::answer::FamilyAnswer;
 use codec_family::room::Widths;
+use codec_records::columns::columns_of;
+use codec_records::records::Record;
 use codec_samples::family::consensus_reads_sampled;
-use codec_select::columns::columns_of;
-use codec_select::records::Record;
 use codec_stats::ledger::Ledger;
-use family_text::header::Header;
-use family_text::settings::Handed;
 use family_windows::output;
-ghost use mathlib.Core.Path.{_≡_};
-ghost use Prim.Native.Nat.{_+_, _≤_};
+use ledger_lines::settings::Handed;
+use record_lines::header::Header;
+ghost use Prim.Native.Nat.{_≤_};
 ghost use lib.ListN.{length, take};
 ghost use Rattle.codec_duplex.specs.Columns.{strand};
 ghost use Rattle.codec_samples.specs.Books.{booksOf};
 ghost use Rattle.codec_samples.specs.SampledCall.{sampledCallOf};
 ghost use Rattle.family_text.specs.Family.{Announced, family as familyOf};
-ghost use Rattle.family_text.specs.Strands.{held, Held, Roomy};
+ghost use Rattle.strand_lines.specs.Strands.{held, Held, Roomy};
 ghost use Rattle.family_calls.specs.Ledgers.{callFor, Kept, HandedOn};
 ghost use Rattle.family_calls.specs.Places.{Short};
 
@@ -88,10 +88,15 @@ fn call_family(
     let r2_quals_end = r2.quals;
     let r2_depths_end = r2.depths;
     let r2_errors_end = r2.errors;
-    consensus_reads_sampled(
+    let chosen = select_fates(
         columns_of(table, found.records),
         found.records,
         &ops[..words],
+        found.options,
+    );
+    consensus_reads_sampled(
+        chosen,
+        found.records,
         found.options,
         found.has_r1,
         &r1_bases[..r1_bases_end],

@@ -10,21 +10,21 @@ use lib.Dec.{eqb, leb}
 use lib.ListN.{drop}
 use lib.Seq.{drop-drop}
 use Rattle.codec_duplex.specs.Columns.{Strand}
-use Rattle.codec_select.specs.declared.records.Record.{Record}
+use Rattle.codec_records.specs.declared.records.Record.{Record}
 use Rattle.table_text.specs.Parts.{Parts, last, ended, inFront, parts}
+use Rattle.line_text.specs.Parsed.{Parsed, parsed, unparsed}
+use Rattle.line_text.specs.Reading.{Reading, got, wrong, cut, andNext, mapped, applied, gotAfter, lineThen, oneLine, linesFrom}
+use Rattle.ledger_lines.specs.Ledgers.{byTold, ledgersFrom}
+use Rattle.ledger_lines.specs.Settings.{settingOf}
+use Rattle.ledger_lines.specs.declared.settings.Handed.{Handed}
+use Rattle.ledger_lines.specs.declared.settings.Told.the-variants.{Set, Malformed, Other}
+use Rattle.ledger_lines.specs.declared.settings.Told.{Told}
+use Rattle.record_lines.specs.Records.{recordLine, recordsFrom}
+use Rattle.record_lines.specs.declared.header.Header.{Header}
+use Rattle.strand_lines.specs.Strands.{columnFrom, strandFrom, strandIf}
 use Rattle.family_text.specs.Family.{headerLine, familyFrom, familyOf, Call, call, noMore, familyOrEnd, callOf, FamilySteps}
-use Rattle.family_text.specs.Ledgers.{byTold, ledgersFrom}
-use Rattle.family_text.specs.Parsed.{Parsed, parsed, unparsed}
-use Rattle.family_text.specs.Reading.{Reading, got, wrong, cut, andNext, mapped, applied, gotAfter, lineThen, oneLine, linesFrom}
-use Rattle.family_text.specs.Records.{recordLine, recordsFrom}
-use Rattle.family_text.specs.Settings.{settingOf}
-use Rattle.family_text.specs.Strands.{columnFrom, strandFrom, strandIf}
 use Rattle.family_text.specs.declared.family.Ending.the-variants as endings
 use Rattle.family_text.specs.declared.family.FamilyRead.{FamilyRead}
-use Rattle.family_text.specs.declared.header.Header.{Header}
-use Rattle.family_text.specs.declared.settings.Handed.{Handed}
-use Rattle.family_text.specs.declared.settings.Told.the-variants.{Set, Malformed, Other}
-use Rattle.family_text.specs.declared.settings.Told.{Told}
 
 -- the lines that are ended
 lineCount : Parts → ℕ

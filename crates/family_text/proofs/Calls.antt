@@ -10,25 +10,25 @@ use lib.Seq.{drop-cons}
 use Rattle.bytes.specs.Bytes.{indexOf}
 use Rattle.codec_duplex.specs.Columns.{Strand}
 use Rattle.table_text.specs.Parts.{Parts, last, ended, inFront, parts}
-use Rattle.family_text.specs.Family.{headerParsed, headerLine, family, familyFrom, familyOf, call, familyOrEnd, callOf, endedBy, readIn, Announced, HeaderSteps, FamilySteps}
-use Rattle.family_text.specs.Header.{headerKinds, headerLimits, headerFrom, headerOf}
-use Rattle.family_text.specs.Ledgers.{ledgersFrom}
-use Rattle.family_text.specs.Line.{lineOf}
-use Rattle.family_text.specs.Reading.{mapped, lineThen, oneLine, linesFrom, stopIn, Steps}
-use Rattle.family_text.specs.Strands.{Held}
+use Rattle.line_text.specs.Line.{lineOf}
+use Rattle.line_text.specs.Reading.{mapped, lineThen, oneLine, linesFrom, stopIn, Steps}
+use Rattle.line_text.specs.declared.lines.Next.the-variants.{Until, Stopped}
+use Rattle.line_text.specs.declared.lines.Next.{Next}
+use Rattle.line_text.specs.declared.lines.Stop.the-variants as stops
+use Rattle.line_text.specs.declared.lines.Stop.{Stop}
+use Rattle.line_text.proofs.Fits.{fit-line}
+use Rattle.line_text.proofs.Readings.{line-ended, next-stopped}
+use Rattle.ledger_lines.specs.Ledgers.{ledgersFrom}
+use Rattle.ledger_lines.specs.declared.settings.Handed.{Handed}
+use Rattle.record_lines.specs.Header.{headerKinds, headerLimits, headerFrom, headerOf}
+use Rattle.record_lines.specs.declared.header.Header.{Header}
+use Rattle.record_lines.specs.declared.header.HeaderLine.the-variants.{Found, Malformed}
+use Rattle.record_lines.specs.declared.header.HeaderLine.{HeaderLine}
+use Rattle.strand_lines.specs.Strands.{Held}
+use Rattle.family_text.specs.Family.{headerParsed, headerLine, familyFrom, familyOf, call, familyOrEnd, callOf, endedBy, readIn, Announced, HeaderSteps, FamilySteps}
 use Rattle.family_text.specs.declared.family.Ending.the-variants as endings
 use Rattle.family_text.specs.declared.family.FamilyRead.{FamilyRead}
 use Rattle.family_text.specs.declared.family.HeaderNext.the-variants as headers
-use Rattle.family_text.specs.declared.header.Header.{Header}
-use Rattle.family_text.specs.declared.header.HeaderLine.the-variants.{Found, Malformed}
-use Rattle.family_text.specs.declared.header.HeaderLine.{HeaderLine}
-use Rattle.family_text.specs.declared.lines.Next.the-variants.{Until, Stopped}
-use Rattle.family_text.specs.declared.lines.Next.{Next}
-use Rattle.family_text.specs.declared.lines.Stop.the-variants as stops
-use Rattle.family_text.specs.declared.lines.Stop.{Stop}
-use Rattle.family_text.specs.declared.settings.Handed.{Handed}
-use Rattle.family_text.proofs.Fits.{fit-line}
-use Rattle.family_text.proofs.Readings.{line-ended, next-stopped}
 
 -- a header announces no more than there is room for
 pub header-announced : (line : List ℕ) (h : Header) → Found h ≡ headerOf line → Announced h

@@ -4,26 +4,26 @@ use mathlib.Core.Path.{_≡_}
 use Prim.Native.Nat.{ℕ, _≤_}
 use lib.ListN.{length, take}
 use Rattle.codec_duplex.specs.Columns.{Strand}
-use Rattle.codec_select.specs.declared.records.Record.{Record}
+use Rattle.codec_records.specs.declared.records.Record.{Record}
 use Rattle.table_text.specs.Parts.{Parts, last, ended}
-use Rattle.family_text.specs.Header.{headerOf}
-use Rattle.family_text.specs.Ledgers.{ledgersFrom}
-use Rattle.family_text.specs.Parsed.{Parsed, parsed, unparsed}
-use Rattle.family_text.specs.Reading.{Reading, got, wrong, cut, andNext, mapped, applied, oneLine, linesFrom, stopIn, stopPlace}
-use Rattle.family_text.specs.Records.{recordsFrom, tableOf}
-use Rattle.family_text.specs.Strands.{strandIf, held, Held}
-use Rattle.family_text.specs.Numbers.{wordsLine}
+use Rattle.line_text.specs.Parsed.{Parsed, parsed, unparsed}
+use Rattle.line_text.specs.Reading.{Reading, got, cut, andNext, mapped, applied, oneLine, linesFrom, stopIn, stopPlace}
+use Rattle.line_text.specs.Numbers.{wordsLine}
+use Rattle.line_text.specs.declared.lines.Next.{Next}
+use Rattle.line_text.specs.declared.lines.Next.the-variants.{Until, Stopped}
+use Rattle.ledger_lines.specs.Ledgers.{ledgersFrom}
+use Rattle.ledger_lines.specs.declared.settings.Handed.{Handed}
+use Rattle.record_lines.specs.Header.{headerOf}
+use Rattle.record_lines.specs.Records.{recordsFrom, tableOf}
+use Rattle.record_lines.specs.declared.header.Header.{Header}
+use Rattle.record_lines.specs.declared.header.HeaderLine.{HeaderLine}
+use Rattle.record_lines.specs.declared.header.HeaderLine.the-variants.{Found, Malformed}
+use Rattle.strand_lines.specs.Strands.{strandIf, held, Held}
 use Rattle.family_text.specs.declared.family.Ending.{Ending}
 use Rattle.family_text.specs.declared.family.Ending.the-variants as endings
 use Rattle.family_text.specs.declared.family.FamilyRead.{FamilyRead}
 use Rattle.family_text.specs.declared.family.HeaderNext.{HeaderNext}
 use Rattle.family_text.specs.declared.family.HeaderNext.the-variants as headers
-use Rattle.family_text.specs.declared.header.Header.{Header}
-use Rattle.family_text.specs.declared.lines.Next.{Next}
-use Rattle.family_text.specs.declared.lines.Next.the-variants.{Until, Stopped}
-use Rattle.family_text.specs.declared.header.HeaderLine.{HeaderLine}
-use Rattle.family_text.specs.declared.header.HeaderLine.the-variants.{Found, Malformed}
-use Rattle.family_text.specs.declared.settings.Handed.{Handed}
 
 abbrev pub headerParsed : HeaderLine → Parsed Header
 headerParsed (Found h) = parsed h

@@ -1,14 +1,1 @@
-pub mod Bases
 pub mod Family
-pub mod Fit
-pub mod Header
-pub mod Ledgers
-pub mod Line
-pub mod Numbers
-pub mod Parsed
-pub mod Reading
-pub mod Record
-pub mod Records
-pub mod Settings
-pub mod Strands
-pub mod Value

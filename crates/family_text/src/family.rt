@@ -1,23 +1,23 @@
 // A family call as text: its header, its records, its operation words and its strands, with lines in front that set what it is handed.
-use crate::header;
-use crate::header::Header;
-use crate::header::HeaderLine;
-use crate::ledgers;
-use crate::lines::Next;
-use crate::lines::Stop;
-use crate::records;
-use crate::settings::Handed;
-use crate::strands;
 use codec_family::room::Widths;
-use codec_select::records::Record;
+use codec_records::records::Record;
+use ledger_lines::ledgers;
+use ledger_lines::settings::Handed;
+use line_text::lines::Next;
+use line_text::lines::Stop;
+use record_lines::header;
+use record_lines::header::Header;
+use record_lines::header::HeaderLine;
+use record_lines::records;
+use strand_lines::strands;
 use table_text::parts;
 ghost use mathlib.Core.Path.{_≡_};
 ghost use Prim.Native.Nat.{_≤_};
 ghost use lib.ListN.{length, take};
 ghost use Rattle.codec_duplex.specs.Columns.{strand};
+ghost use Rattle.line_text.specs.Reading.{Steps, linesFrom, mapped, oneLine};
+ghost use Rattle.strand_lines.specs.Strands.{held, Held, Roomy};
 ghost use Rattle.family_text.specs.Family.{HeaderSteps, FamilySteps, call, headerLine, family, familyFrom, familyOf, callOf, endedBy};
-ghost use Rattle.family_text.specs.Reading.{Steps, linesFrom, mapped, oneLine};
-ghost use Rattle.family_text.specs.Strands.{held, Held, Roomy};
 
 // Room for the longest list of operation words.
 pub const WORDS: usize = 9000;

@@ -6,11 +6,11 @@ use native.Mathlib.Nat.{le-trans}
 use native.Mathlib.Omega.{arith}
 use borrow.Author.Tests.{eqb-false}
 use lib.Dec.{eqb}
-use Rattle.family_text.specs.Reading.{nextPlace, stopPlace}
-use Rattle.family_text.specs.declared.lines.Next.the-variants as nexts
-use Rattle.family_text.specs.declared.lines.Next.{Next}
-use Rattle.family_text.specs.declared.lines.Stop.the-variants as stops
-use Rattle.family_text.specs.declared.lines.Stop.{Stop}
+use Rattle.line_text.specs.Reading.{nextPlace, stopPlace}
+use Rattle.line_text.specs.declared.lines.Next.the-variants as nexts
+use Rattle.line_text.specs.declared.lines.Next.{Next}
+use Rattle.line_text.specs.declared.lines.Stop.the-variants as stops
+use Rattle.line_text.specs.declared.lines.Stop.{Stop}
 use Rattle.family_windows.specs.Places.{ReachedWithin, beginning, stopped}
 use Rattle.family_windows.specs.declared.windows.Reached.the-variants.{Until, Malformed}
 use Rattle.family_windows.specs.declared.windows.Reached.{Reached}

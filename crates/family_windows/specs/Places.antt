@@ -2,10 +2,10 @@
 use mathlib.Core.Bool.{Bool, cond}
 use Prim.Native.Nat.{ℕ, _^_, _≤_, _<_}
 use lib.Dec.{eqb}
-use Rattle.family_text.specs.declared.lines.Next.{Next}
-use Rattle.family_text.specs.declared.lines.Next.the-variants as nexts
-use Rattle.family_text.specs.declared.lines.Stop.{Stop}
-use Rattle.family_text.specs.declared.lines.Stop.the-variants as stops
+use Rattle.line_text.specs.declared.lines.Next.{Next}
+use Rattle.line_text.specs.declared.lines.Next.the-variants as nexts
+use Rattle.line_text.specs.declared.lines.Stop.{Stop}
+use Rattle.line_text.specs.declared.lines.Stop.the-variants as stops
 use Rattle.family_windows.specs.declared.windows.Reached.{Reached}
 use Rattle.family_windows.specs.declared.windows.Reached.the-variants.{Until, Malformed}
 use Rattle.family_windows.specs.declared.windows.Size.{Size}

@@ -1,14 +1,14 @@
 // A pass over a file of any size: a window of it at a time, which begins where a family begins.
 use codec_stats::ledger::Ledger;
-use family_text::lines::Next;
-use family_text::lines::Stop;
-use family_text::settings::Handed;
+use ledger_lines::settings::Handed;
 use libc::STDERR_FILENO;
+use line_text::lines::Next;
+use line_text::lines::Stop;
 ghost use mathlib.Core.Path.{_≡_};
 ghost use Prim.Native.Nat.{_+_, _^_, _≤_, _<_};
 ghost use lib.ListN.{length};
 ghost use Rattle.codec_stats.specs.Ledger.{fresh};
-ghost use Rattle.family_text.specs.Settings.{freshHanded};
+ghost use Rattle.ledger_lines.specs.Settings.{freshHanded};
 ghost use Rattle.family_windows.specs.Places.{stopped, SizeWithin};
 
 // A well-formed family is shorter: 600 records, 9,000 words and eight columns of 1,100 places are below 200,000 bytes.

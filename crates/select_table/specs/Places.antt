@@ -1,6 +1,6 @@
 -- Where a family ends: past where it began, within the window, and the output filled within its room.
 use Prim.Native.Nat.{ℕ, _≤_, _<_}
-use Rattle.family_text.specs.Reading.{stopPlace}
+use Rattle.line_text.specs.Reading.{stopPlace}
 use Rattle.family_windows.specs.Places.{Onward}
 use Rattle.select_table.specs.declared.answers.Step.{Step}
 use Rattle.select_table.specs.declared.answers.Step.the-variants as steps

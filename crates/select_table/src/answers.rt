@@ -1,18 +1,18 @@
 // The families of a window, one after the other, and what selection answers to each.
 use answer_text::selection_text;
-use codec_select::alone;
-use codec_select::columns::columns_of;
-use codec_select::records::Record;
-use family_text::column;
+use codec_records::columns::columns_of;
+use codec_records::records::Record;
 use family_text::family;
 use family_text::family::Ending;
-use family_text::header::Header;
-use family_text::ledgers;
-use family_text::lines::Stop;
-use family_text::settings::Handed;
 use family_windows::output;
 use family_windows::windows;
 use family_windows::windows::Reached;
+use ledger_lines::ledgers;
+use ledger_lines::settings::Handed;
+use line_text::lines::Stop;
+use record_lines::header::Header;
+use record_selection::alone;
+use strand_lines::column;
 ghost use Prim.Native.Nat.{_+_, _≤_, _<_};
 ghost use lib.ListN.{length};
 ghost use Rattle.family_windows.specs.Places.{ReachedWithin};

@@ -1,11 +1,11 @@
 // A pass over a file of any size: a window of it at a time, which begins where a family begins.
 use crate::answers;
 use family_text::family;
-use family_text::lines;
 use family_windows::output;
 use family_windows::output::Verdict;
 use family_windows::windows;
 use family_windows::windows::Reached;
+use line_text::lines;
 ghost use Prim.Native.Nat.{_^_, _≤_, _<_};
 ghost use lib.ListN.{length};
 

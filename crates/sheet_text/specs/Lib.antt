@@ -1,2 +1,3 @@
+pub mod Reported
 pub mod Sheet
 pub mod SheetText

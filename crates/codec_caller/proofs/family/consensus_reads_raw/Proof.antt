@@ -1,31 +1,26 @@
--- The parts of the call in turn; what they come to is in proofs/Parts.antt, for every list of records that the columns hold.
-use mathlib.Core.Bool.{Bool}
+-- The parts of the call in turn; what they come to is in proofs/Parts.antt, for every family of which selection chose so.
+use mathlib.Core.Bool.{cond}
 use mathlib.Core.List.{List}
 use mathlib.Core.Path.{_≡_, refl, sym, _∙_}
-use Prim.Native.Nat.{ℕ, _≤_}
+use Prim.Native.Nat.{ℕ}
 use native.Mathlib.Omega.{arith}
 use borrow.Author.Needs.{needs}
+use lib.Dec.{ltb}
 use lib.ListN.{length, take, length-take}
 use Rattle.codec_duplex.specs.Columns.{Strand, strand}
 use Rattle.codec_duplex.specs.Duplex.{duplex}
-use Rattle.codec_select.specs.Records.{Holds}
-use Rattle.codec_select.specs.declared.columns.Columns.{Columns}
-use Rattle.codec_select.specs.declared.records.Record.{Record}
-use Rattle.codec_select.specs.declared.selection.Decision.{Decision}
-use Rattle.codec_select.proofs.Holding.{full-of}
+use Rattle.codec_records.specs.declared.records.Record.{Record}
 use Rattle.codec_family.specs.Call.{Lent, lentOf}
-use Rattle.codec_caller.specs.Settling.{Selected}
-use Rattle.codec_caller.proofs.Parts.{Held, recordsOf, some-records, selected-front, family-refused, lends, frame-fits, few-own, are-fates, framable, addable, family-answered}
+use Rattle.codec_caller.specs.Settling.{Selected, Chose}
+use Rattle.codec_caller.specs.declared.choosing.Chosen.{Chosen}
+use Rattle.codec_caller.proofs.Parts.{fates-places, selected-front, family-refused, lends, frame-fits, few-own, are-fates, framable, addable, family-answered}
 use Rattle.codec_caller.proofs.family.consensus_reads_raw.Statement.{statement}
 use Rattle.codec_caller.proofs.family.consensus_reads_raw.Tie as tie
 
 -- what the call is given and lent
 module _ (s : tie.After-refuse) where
   abbrev start-of : tie.Start
-  start-of = s .before .before .before .before .before .before .before .before .before .before .before .before .before .before .before .before .before .before .before .before .before .before .before .before .before .before .before .before
-
-  abbrev columns-of : Columns
-  columns-of = start-of .args .columns
+  start-of = s .before .before .before .before .before .before .before .before .before .before .before .before .before .before .before .before .before .before .before .before .before .before .before .before .before .before
 
   abbrev r1-of : Strand
   r1-of = (strand (start-of .args .r1-bases .now) (start-of .args .r1-quals .now) (start-of .args .r1-depths .now) (start-of .args .r1-errors .now))
@@ -36,28 +31,25 @@ module _ (s : tie.After-refuse) where
   abbrev lent-of : Lent
   lent-of = lentOf (duplex (start-of .args .d-bases .now) (start-of .args .d-quals .now) (start-of .args .d-depths .now) (start-of .args .d-errors .now)) (strand (start-of .args .s1-bases .now) (start-of .args .s1-quals .now) (start-of .args .s1-depths .now) (start-of .args .s1-errors .now)) (strand (start-of .args .s2-bases .now) (start-of .args .s2-quals .now) (start-of .args .s2-depths .now) (start-of .args .s2-errors .now)) (start-of .args .listed .now) (start-of .args .reasons .now) (start-of .args .marks .now)
 
-  -- what selection gives
-  abbrev decision-of : Decision
-  decision-of = s .before .before .select-fates .result .decision
+  abbrev chosen-of : Chosen
+  chosen-of = start-of .args .chosen
 
   abbrev own-of : List ℕ
-  own-of = take (s .before .before .before .room .result) (s .before .before .select-fates .result .fates)
+  own-of = take (s .before .before .room .result) (chosen-of .fates)
 
-  selects : (rs : List Record) → (start-of .args .len ≤ 512 → Holds columns-of (start-of .args .len) rs) → Selected (start-of .args .options) (start-of .args .len) rs (start-of .args .ops .now) decision-of own-of
-  selects rs front = selected-front (start-of .args .options) (start-of .args .len) _ rs (start-of .args .ops .now) decision-of (s .before .before .select-fates .result .fates) (s .before .before .before .room .ensures .0) (s .before .before .select-fates .ensures .0 rs front)
+  selected : (rs : List Record) (words : List ℕ) → Selected (start-of .args .options) (start-of .args .len) rs words (chosen-of .decision) (take (cond (ltb 512 (start-of .args .len)) 0 (start-of .args .len)) (chosen-of .fates))
+      → Selected (start-of .args .options) (start-of .args .len) rs words (chosen-of .decision) own-of
+  selected rs words chosen = selected-front (start-of .args .options) (start-of .args .len) _ rs words (chosen-of .decision) (chosen-of .fates) (s .before .before .room .ensures .0) chosen
 
-  -- records that the columns hold
-  abbrev records-of : List Record
-  records-of = recordsOf columns-of (start-of .args .len)
+  places : length (chosen-of .fates) ≡ 512
+  places = fates-places chosen-of _ (start-of .good .0)
 
-  held : Held columns-of (start-of .args .len) records-of
-  held = some-records columns-of (start-of .args .len) (full-of columns-of _ (start-of .good .0))
+  -- a family of which selection chose so
+  abbrev some-of : Chose (start-of .args .options) (start-of .args .len) chosen-of
+  some-of = start-of .pre
 
 room-requires : tie.Need-room-requires
 room-requires c κs = search needs
-
-select-fates-requires : tie.Need-select-fates-requires
-select-fates-requires c κs = search needs
 
 refuse-requires : tie.Need-refuse-requires
 refuse-requires c κs = search needs
@@ -69,22 +61,22 @@ refused-requires : tie.Need-refused-requires
 refused-requires c κs = search needs
 
 returns : tie.Need-returns
-returns c = λ rs size front. rw (c .refused .ensures) (family-refused (columns-of (c .before .before .before .before)) (start-of (c .before .before .before .before) .args .len) (start-of (c .before .before .before .before) .args .options) (start-of (c .before .before .before .before) .args .ops .now) (start-of (c .before .before .before .before) .args .has-r1) (r1-of (c .before .before .before .before)) (start-of (c .before .before .before .before) .args .has-r2) (r2-of (c .before .before .before .before)) (lent-of (c .before .before .before .before)) (start-of (c .before .before .before .before) .args .ledger) (decision-of (c .before .before .before .before)) (own-of (c .before .before .before .before)) ((c .before .before .before .before) .refuse .result) (selects (c .before .before .before .before)) ((c .before .before .before .before) .refuse .ensures) rs (record { size = size; front = front }) _ _ (c .before .before .refusal .given .1))
+returns c = λ rs words size chosen. rw (c .refused .ensures) (family-refused (start-of (c .before .before .before .before) .args .len) (start-of (c .before .before .before .before) .args .options) (start-of (c .before .before .before .before) .args .has-r1) (r1-of (c .before .before .before .before)) (start-of (c .before .before .before .before) .args .has-r2) (r2-of (c .before .before .before .before)) (lent-of (c .before .before .before .before)) (start-of (c .before .before .before .before) .args .ledger) (chosen-of (c .before .before .before .before) .decision) (own-of (c .before .before .before .before)) ((c .before .before .before .before) .refuse .result) ((c .before .before .before .before) .refuse .ensures) rs words size (selected (c .before .before .before .before) rs words chosen) _ _ (c .before .before .refusal .given .1))
 
 enum-told : tie.Need-enum-told
 enum-told c = search needs
 
 end-family-requires : tie.Need-end-family-requires
-end-family-requires c κs = frame-fits (columns-of (c .before .before)) (start-of (c .before .before) .args .len) (start-of (c .before .before) .args .options) (start-of (c .before .before) .args .ops .now) (start-of (c .before .before) .args .has-r1) (r1-of (c .before .before)) (start-of (c .before .before) .args .has-r2) (r2-of (c .before .before)) (lent-of (c .before .before)) (start-of (c .before .before) .args .ledger) (decision-of (c .before .before)) (own-of (c .before .before)) ((c .before .before) .refuse .result) (selects (c .before .before)) ((c .before .before) .refuse .ensures) (records-of (c .before .before)) (held (c .before .before)) (c .enum-told .given .1)
+end-family-requires c κs = frame-fits (start-of (c .before .before) .args .len) (start-of (c .before .before) .args .options) (start-of (c .before .before) .args .has-r1) (r1-of (c .before .before)) (start-of (c .before .before) .args .has-r2) (r2-of (c .before .before)) (lent-of (c .before .before)) (start-of (c .before .before) .args .ledger) (chosen-of (c .before .before) .decision) (own-of (c .before .before)) ((c .before .before) .refuse .result) ((c .before .before) .refuse .ensures) (some-of (c .before .before) .records) (some-of (c .before .before) .ops) (some-of (c .before .before) .size) (selected (c .before .before) (some-of (c .before .before) .records) (some-of (c .before .before) .ops) (some-of (c .before .before) .selected)) (c .enum-told .given .1)
 
 array-borrow-prefix-fates : tie.Need-array-borrow-prefix-fates
-array-borrow-prefix-fates c = omega (arith, c .before .before .before .before .before .before .room .ensures .1 .1, c .before .before .before .before .before .select-fates .ensures .1)
+array-borrow-prefix-fates c = omega (arith, c .before .before .before .before .before .room .ensures .1 .1, places (c .before .before .before))
 
 slice-aggregate-settle-family : tie.Need-slice-aggregate-settle-family
-slice-aggregate-settle-family c = simp length-take (omega (arith, c .before .before .before .before .before .before .before .room .ensures .1 .1, c .before .before .before .before .before .before .select-fates .ensures .1))
+slice-aggregate-settle-family c = simp length-take (omega (arith, c .before .before .before .before .before .before .room .ensures .1 .1, places (c .before .before .before .before)))
 
 settle-family-requires : tie.Need-settle-family-requires
-settle-family-requires c κs = let own = lends (columns-of (c .before .before .before .before .before .before .before)) (start-of (c .before .before .before .before .before .before .before) .args .len) (start-of (c .before .before .before .before .before .before .before) .args .options) (start-of (c .before .before .before .before .before .before .before) .args .ops .now) (start-of (c .before .before .before .before .before .before .before) .args .has-r1) (r1-of (c .before .before .before .before .before .before .before)) (start-of (c .before .before .before .before .before .before .before) .args .has-r2) (r2-of (c .before .before .before .before .before .before .before)) (lent-of (c .before .before .before .before .before .before .before)) (start-of (c .before .before .before .before .before .before .before) .args .ledger) (decision-of (c .before .before .before .before .before .before .before)) (own-of (c .before .before .before .before .before .before .before)) ((c .before .before .before .before .before .before .before) .refuse .result) (selects (c .before .before .before .before .before .before .before)) ((c .before .before .before .before .before .before .before) .refuse .ensures) (records-of (c .before .before .before .before .before .before .before)) (held (c .before .before .before .before .before .before .before)) (c .before .before .before .before .before .enum-told .given .1) in (are-fates (columns-of (c .before .before .before .before .before .before .before)) (start-of (c .before .before .before .before .before .before .before) .args .len) (start-of (c .before .before .before .before .before .before .before) .args .options) (start-of (c .before .before .before .before .before .before .before) .args .ops .now) (start-of (c .before .before .before .before .before .before .before) .args .has-r1) (r1-of (c .before .before .before .before .before .before .before)) (start-of (c .before .before .before .before .before .before .before) .args .has-r2) (r2-of (c .before .before .before .before .before .before .before)) (lent-of (c .before .before .before .before .before .before .before)) (start-of (c .before .before .before .before .before .before .before) .args .ledger) (decision-of (c .before .before .before .before .before .before .before)) (own-of (c .before .before .before .before .before .before .before)) ((c .before .before .before .before .before .before .before) .refuse .result) (selects (c .before .before .before .before .before .before .before)) ((c .before .before .before .before .before .before .before) .refuse .ensures) (records-of (c .before .before .before .before .before .before .before)) (held (c .before .before .before .before .before .before .before)) (c .before .before .before .before .before .enum-told .given .1) (c .before .before .before .before .end-family .result) (c .before .before .before .before .end-family .ensures), (few-own (columns-of (c .before .before .before .before .before .before .before)) (start-of (c .before .before .before .before .before .before .before) .args .len) (start-of (c .before .before .before .before .before .before .before) .args .options) (start-of (c .before .before .before .before .before .before .before) .args .ops .now) (start-of (c .before .before .before .before .before .before .before) .args .has-r1) (r1-of (c .before .before .before .before .before .before .before)) (start-of (c .before .before .before .before .before .before .before) .args .has-r2) (r2-of (c .before .before .before .before .before .before .before)) (lent-of (c .before .before .before .before .before .before .before)) (start-of (c .before .before .before .before .before .before .before) .args .ledger) (decision-of (c .before .before .before .before .before .before .before)) (own-of (c .before .before .before .before .before .before .before)) ((c .before .before .before .before .before .before .before) .refuse .result) (selects (c .before .before .before .before .before .before .before)) ((c .before .before .before .before .before .before .before) .refuse .ensures) (records-of (c .before .before .before .before .before .before .before)) (held (c .before .before .before .before .before .before .before)) (c .before .before .before .before .before .enum-told .given .1) (c .before .before .before .before .end-family .result) (c .before .before .before .before .end-family .ensures), own .records, own .reasons, own .marks))
+settle-family-requires c κs = let own = lends (start-of (c .before .before .before .before .before .before .before) .args .len) (start-of (c .before .before .before .before .before .before .before) .args .options) (start-of (c .before .before .before .before .before .before .before) .args .has-r1) (r1-of (c .before .before .before .before .before .before .before)) (start-of (c .before .before .before .before .before .before .before) .args .has-r2) (r2-of (c .before .before .before .before .before .before .before)) (lent-of (c .before .before .before .before .before .before .before)) (start-of (c .before .before .before .before .before .before .before) .args .ledger) (chosen-of (c .before .before .before .before .before .before .before) .decision) (own-of (c .before .before .before .before .before .before .before)) ((c .before .before .before .before .before .before .before) .refuse .result) ((c .before .before .before .before .before .before .before) .refuse .ensures) (some-of (c .before .before .before .before .before .before .before) .records) (some-of (c .before .before .before .before .before .before .before) .ops) (some-of (c .before .before .before .before .before .before .before) .size) (selected (c .before .before .before .before .before .before .before) (some-of (c .before .before .before .before .before .before .before) .records) (some-of (c .before .before .before .before .before .before .before) .ops) (some-of (c .before .before .before .before .before .before .before) .selected)) (c .before .before .before .before .before .enum-told .given .1) in (are-fates (start-of (c .before .before .before .before .before .before .before) .args .len) (start-of (c .before .before .before .before .before .before .before) .args .options) (start-of (c .before .before .before .before .before .before .before) .args .has-r1) (r1-of (c .before .before .before .before .before .before .before)) (start-of (c .before .before .before .before .before .before .before) .args .has-r2) (r2-of (c .before .before .before .before .before .before .before)) (lent-of (c .before .before .before .before .before .before .before)) (start-of (c .before .before .before .before .before .before .before) .args .ledger) (chosen-of (c .before .before .before .before .before .before .before) .decision) (own-of (c .before .before .before .before .before .before .before)) ((c .before .before .before .before .before .before .before) .refuse .result) ((c .before .before .before .before .before .before .before) .refuse .ensures) (some-of (c .before .before .before .before .before .before .before) .records) (some-of (c .before .before .before .before .before .before .before) .ops) (some-of (c .before .before .before .before .before .before .before) .size) (selected (c .before .before .before .before .before .before .before) (some-of (c .before .before .before .before .before .before .before) .records) (some-of (c .before .before .before .before .before .before .before) .ops) (some-of (c .before .before .before .before .before .before .before) .selected)) (c .before .before .before .before .before .enum-told .given .1) (c .before .before .before .before .end-family .result) (c .before .before .before .before .end-family .ensures), (few-own (start-of (c .before .before .before .before .before .before .before) .args .len) (start-of (c .before .before .before .before .before .before .before) .args .options) (start-of (c .before .before .before .before .before .before .before) .args .has-r1) (r1-of (c .before .before .before .before .before .before .before)) (start-of (c .before .before .before .before .before .before .before) .args .has-r2) (r2-of (c .before .before .before .before .before .before .before)) (lent-of (c .before .before .before .before .before .before .before)) (start-of (c .before .before .before .before .before .before .before) .args .ledger) (chosen-of (c .before .before .before .before .before .before .before) .decision) (own-of (c .before .before .before .before .before .before .before)) ((c .before .before .before .before .before .before .before) .refuse .result) ((c .before .before .before .before .before .before .before) .refuse .ensures) (some-of (c .before .before .before .before .before .before .before) .records) (some-of (c .before .before .before .before .before .before .before) .ops) (some-of (c .before .before .before .before .before .before .before) .size) (selected (c .before .before .before .before .before .before .before) (some-of (c .before .before .before .before .before .before .before) .records) (some-of (c .before .before .before .before .before .before .before) .ops) (some-of (c .before .before .before .before .before .before .before) .selected)) (c .before .before .before .before .before .enum-told .given .1) (c .before .before .before .before .end-family .result) (c .before .before .before .before .end-family .ensures), own .records, own .reasons, own .marks))
 
 is-called-requires : tie.Need-is-called-requires
 is-called-requires c κs = search needs
@@ -93,13 +85,13 @@ frame-of-requires : tie.Need-frame-of-requires
 frame-of-requires c κs = search needs
 
 write-columns-requires : tie.Need-write-columns-requires
-write-columns-requires c κs = λ e. rw (c .before .before .before .before .before .before .before .before .before .before .before .before .frame-of .ensures) (framable (columns-of (c .before .before .before .before .before .before .before .before .before .before .before .before .before .before .before .before .before .before .before .before .before .before .before .before .before .before .before .before .before .before)) (start-of (c .before .before .before .before .before .before .before .before .before .before .before .before .before .before .before .before .before .before .before .before .before .before .before .before .before .before .before .before .before .before) .args .len) (start-of (c .before .before .before .before .before .before .before .before .before .before .before .before .before .before .before .before .before .before .before .before .before .before .before .before .before .before .before .before .before .before) .args .options) (start-of (c .before .before .before .before .before .before .before .before .before .before .before .before .before .before .before .before .before .before .before .before .before .before .before .before .before .before .before .before .before .before) .args .ops .now) (start-of (c .before .before .before .before .before .before .before .before .before .before .before .before .before .before .before .before .before .before .before .before .before .before .before .before .before .before .before .before .before .before) .args .has-r1) (r1-of (c .before .before .before .before .before .before .before .before .before .before .before .before .before .before .before .before .before .before .before .before .before .before .before .before .before .before .before .before .before .before)) (start-of (c .before .before .before .before .before .before .before .before .before .before .before .before .before .before .before .before .before .before .before .before .before .before .before .before .before .before .before .before .before .before) .args .has-r2) (r2-of (c .before .before .before .before .before .before .before .before .before .before .before .before .before .before .before .before .before .before .before .before .before .before .before .before .before .before .before .before .before .before)) (lent-of (c .before .before .before .before .before .before .before .before .before .before .before .before .before .before .before .before .before .before .before .before .before .before .before .before .before .before .before .before .before .before)) (start-of (c .before .before .before .before .before .before .before .before .before .before .before .before .before .before .before .before .before .before .before .before .before .before .before .before .before .before .before .before .before .before) .args .ledger) (decision-of (c .before .before .before .before .before .before .before .before .before .before .before .before .before .before .before .before .before .before .before .before .before .before .before .before .before .before .before .before .before .before)) (own-of (c .before .before .before .before .before .before .before .before .before .before .before .before .before .before .before .before .before .before .before .before .before .before .before .before .before .before .before .before .before .before)) ((c .before .before .before .before .before .before .before .before .before .before .before .before .before .before .before .before .before .before .before .before .before .before .before .before .before .before .before .before .before .before) .refuse .result) (selects (c .before .before .before .before .before .before .before .before .before .before .before .before .before .before .before .before .before .before .before .before .before .before .before .before .before .before .before .before .before .before)) ((c .before .before .before .before .before .before .before .before .before .before .before .before .before .before .before .before .before .before .before .before .before .before .before .before .before .before .before .before .before .before) .refuse .ensures) (records-of (c .before .before .before .before .before .before .before .before .before .before .before .before .before .before .before .before .before .before .before .before .before .before .before .before .before .before .before .before .before .before)) (held (c .before .before .before .before .before .before .before .before .before .before .before .before .before .before .before .before .before .before .before .before .before .before .before .before .before .before .before .before .before .before)) (c .before .before .before .before .before .before .before .before .before .before .before .before .before .before .before .before .before .before .before .before .before .before .before .before .before .before .before .before .enum-told .given .1) (c .before .before .before .before .before .before .before .before .before .before .before .before .before .before .before .before .before .before .before .before .before .before .before .before .before .before .before .end-family .result) (c .before .before .before .before .before .before .before .before .before .before .before .before .before .before .before .before .before .before .before .before .before .before .before .before .before .before .before .end-family .ensures) (sym (c .before .before .before .before .before .before .before .before .before .before .before .before .before .is-called .ensures) ∙ e))
+write-columns-requires c κs = λ e. rw (c .before .before .before .before .before .before .before .before .before .before .before .before .frame-of .ensures) (framable (start-of (c .before .before .before .before .before .before .before .before .before .before .before .before .before .before .before .before .before .before .before .before .before .before .before .before .before .before .before .before .before .before) .args .len) (start-of (c .before .before .before .before .before .before .before .before .before .before .before .before .before .before .before .before .before .before .before .before .before .before .before .before .before .before .before .before .before .before) .args .options) (start-of (c .before .before .before .before .before .before .before .before .before .before .before .before .before .before .before .before .before .before .before .before .before .before .before .before .before .before .before .before .before .before) .args .has-r1) (r1-of (c .before .before .before .before .before .before .before .before .before .before .before .before .before .before .before .before .before .before .before .before .before .before .before .before .before .before .before .before .before .before)) (start-of (c .before .before .before .before .before .before .before .before .before .before .before .before .before .before .before .before .before .before .before .before .before .before .before .before .before .before .before .before .before .before) .args .has-r2) (r2-of (c .before .before .before .before .before .before .before .before .before .before .before .before .before .before .before .before .before .before .before .before .before .before .before .before .before .before .before .before .before .before)) (lent-of (c .before .before .before .before .before .before .before .before .before .before .before .before .before .before .before .before .before .before .before .before .before .before .before .before .before .before .before .before .before .before)) (start-of (c .before .before .before .before .before .before .before .before .before .before .before .before .before .before .before .before .before .before .before .before .before .before .before .before .before .before .before .before .before .before) .args .ledger) (chosen-of (c .before .before .before .before .before .before .before .before .before .before .before .before .before .before .before .before .before .before .before .before .before .before .before .before .before .before .before .before .before .before) .decision) (own-of (c .before .before .before .before .before .before .before .before .before .before .before .before .before .before .before .before .before .before .before .before .before .before .before .before .before .before .before .before .before .before)) ((c .before .before .before .before .before .before .before .before .before .before .before .before .before .before .before .before .before .before .before .before .before .before .before .before .before .before .before .before .before .before) .refuse .result) ((c .before .before .before .before .before .before .before .before .before .before .before .before .before .before .before .before .before .before .before .before .before .before .before .before .before .before .before .before .before .before) .refuse .ensures) (some-of (c .before .before .before .before .before .before .before .before .before .before .before .before .before .before .before .before .before .before .before .before .before .before .before .before .before .before .before .before .before .before) .records) (some-of (c .before .before .before .before .before .before .before .before .before .before .before .before .before .before .before .before .before .before .before .before .before .before .before .before .before .before .before .before .before .before) .ops) (some-of (c .before .before .before .before .before .before .before .before .before .before .before .before .before .before .before .before .before .before .before .before .before .before .before .before .before .before .before .before .before .before) .size) (selected (c .before .before .before .before .before .before .before .before .before .before .before .before .before .before .before .before .before .before .before .before .before .before .before .before .before .before .before .before .before .before) (some-of (c .before .before .before .before .before .before .before .before .before .before .before .before .before .before .before .before .before .before .before .before .before .before .before .before .before .before .before .before .before .before) .records) (some-of (c .before .before .before .before .before .before .before .before .before .before .before .before .before .before .before .before .before .before .before .before .before .before .before .before .before .before .before .before .before .before) .ops) (some-of (c .before .before .before .before .before .before .before .before .before .before .before .before .before .before .before .before .before .before .before .before .before .before .before .before .before .before .before .before .before .before) .selected)) (c .before .before .before .before .before .before .before .before .before .before .before .before .before .before .before .before .before .before .before .before .before .before .before .before .before .before .before .before .enum-told .given .1) (c .before .before .before .before .before .before .before .before .before .before .before .before .before .before .before .before .before .before .before .before .before .before .before .before .before .before .before .end-family .result) (c .before .before .before .before .before .before .before .before .before .before .before .before .before .before .before .before .before .before .before .before .before .before .before .before .before .before .before .end-family .ensures) (sym (c .before .before .before .before .before .before .before .before .before .before .before .before .before .is-called .ensures) ∙ e))
 
 report-requires : tie.Need-report-requires
 report-requires c κs = search needs
 
 add-requires : tie.Need-add-requires
-add-requires c κs = addable (columns-of (c .before .before .before .before .before .before .before .before .before .before .before .before .before .before .before .before .before .before .before .before .before .before .before .before .before .before .before .before .before .before .before .before .before .before .before .before .before .before .before .before .before .before .before .before .before .before .before .before .before .before .before .before .before .before .before .before)) (start-of (c .before .before .before .before .before .before .before .before .before .before .before .before .before .before .before .before .before .before .before .before .before .before .before .before .before .before .before .before .before .before .before .before .before .before .before .before .before .before .before .before .before .before .before .before .before .before .before .before .before .before .before .before .before .before .before .before) .args .len) (start-of (c .before .before .before .before .before .before .before .before .before .before .before .before .before .before .before .before .before .before .before .before .before .before .before .before .before .before .before .before .before .before .before .before .before .before .before .before .before .before .before .before .before .before .before .before .before .before .before .before .before .before .before .before .before .before .before .before) .args .options) (start-of (c .before .before .before .before .before .before .before .before .before .before .before .before .before .before .before .before .before .before .before .before .before .before .before .before .before .before .before .before .before .before .before .before .before .before .before .before .before .before .before .before .before .before .before .before .before .before .before .before .before .before .before .before .before .before .before .before) .args .ops .now) (start-of (c .before .before .before .before .before .before .before .before .before .before .before .before .before .before .before .before .before .before .before .before .before .before .before .before .before .before .before .before .before .before .before .before .before .before .before .before .before .before .before .before .before .before .before .before .before .before .before .before .before .before .before .before .before .before .before .before) .args .has-r1) (r1-of (c .before .before .before .before .before .before .before .before .before .before .before .before .before .before .before .before .before .before .before .before .before .before .before .before .before .before .before .before .before .before .before .before .before .before .before .before .before .before .before .before .before .before .before .before .before .before .before .before .before .before .before .before .before .before .before .before)) (start-of (c .before .before .before .before .before .before .before .before .before .before .before .before .before .before .before .before .before .before .before .before .before .before .before .before .before .before .before .before .before .before .before .before .before .before .before .before .before .before .before .before .before .before .before .before .before .before .before .before .before .before .before .before .before .before .before .before) .args .has-r2) (r2-of (c .before .before .before .before .before .before .before .before .before .before .before .before .before .before .before .before .before .before .before .before .before .before .before .before .before .before .before .before .before .before .before .before .before .before .before .before .before .before .before .before .before .before .before .before .before .before .before .before .before .before .before .before .before .before .before .before)) (lent-of (c .before .before .before .before .before .before .before .before .before .before .before .before .before .before .before .before .before .before .before .before .before .before .before .before .before .before .before .before .before .before .before .before .before .before .before .before .before .before .before .before .before .before .before .before .before .before .before .before .before .before .before .before .before .before .before .before)) (start-of (c .before .before .before .before .before .before .before .before .before .before .before .before .before .before .before .before .before .before .before .before .before .before .before .before .before .before .before .before .before .before .before .before .before .before .before .before .before .before .before .before .before .before .before .before .before .before .before .before .before .before .before .before .before .before .before .before) .args .ledger) (decision-of (c .before .before .before .before .before .before .before .before .before .before .before .before .before .before .before .before .before .before .before .before .before .before .before .before .before .before .before .before .before .before .before .before .before .before .before .before .before .before .before .before .before .before .before .before .before .before .before .before .before .before .before .before .before .before .before .before)) (own-of (c .before .before .before .before .before .before .before .before .before .before .before .before .before .before .before .before .before .before .before .before .before .before .before .before .before .before .before .before .before .before .before .before .before .before .before .before .before .before .before .before .before .before .before .before .before .before .before .before .before .before .before .before .before .before .before .before)) ((c .before .before .before .before .before .before .before .before .before .before .before .before .before .before .before .before .before .before .before .before .before .before .before .before .before .before .before .before .before .before .before .before .before .before .before .before .before .before .before .before .before .before .before .before .before .before .before .before .before .before .before .before .before .before .before .before) .refuse .result) (selects (c .before .before .before .before .before .before .before .before .before .before .before .before .before .before .before .before .before .before .before .before .before .before .before .before .before .before .before .before .before .before .before .before .before .before .before .before .before .before .before .before .before .before .before .before .before .before .before .before .before .before .before .before .before .before .before .before)) ((c .before .before .before .before .before .before .before .before .before .before .before .before .before .before .before .before .before .before .before .before .before .before .before .before .before .before .before .before .before .before .before .before .before .before .before .before .before .before .before .before .before .before .before .before .before .before .before .before .before .before .before .before .before .before .before .before) .refuse .ensures) (records-of (c .before .before .before .before .before .before .before .before .before .before .before .before .before .before .before .before .before .before .before .before .before .before .before .before .before .before .before .before .before .before .before .before .before .before .before .before .before .before .before .before .before .before .before .before .before .before .before .before .before .before .before .before .before .before .before .before)) (held (c .before .before .before .before .before .before .before .before .before .before .before .before .before .before .before .before .before .before .before .before .before .before .before .before .before .before .before .before .before .before .before .before .before .before .before .before .before .before .before .before .before .before .before .before .before .before .before .before .before .before .before .before .before .before .before .before)) (c .before .before .before .before .before .before .before .before .before .before .before .before .before .before .before .before .before .before .before .before .before .before .before .before .before .before .before .before .before .before .before .before .before .before .before .before .before .before .before .before .before .before .before .before .before .before .before .before .before .before .before .before .before .before .enum-told .given .1) (c .before .before .before .before .before .before .before .before .before .before .before .before .before .before .before .before .before .before .before .before .before .before .before .before .before .before .before .before .before .before .before .before .before .before .before .before .before .before .before .before .before .before .before .before .before .before .before .before .before .before .before .before .before .end-family .result) (c .before .before .before .before .before .before .before .before .before .before .before .before .before .before .before .before .before .before .before .before .before .before .before .before .before .before .before .before .before .before .before .before .before .before .before .before .before .before .before .before .before .before .before .before .before .before .before .before .before .before .before .before .before .end-family .ensures) (c .before .before .before .before .before .before .before .before .before .before .before .before .before .before .before .before .before .before .before .before .before .before .before .before .before .before .before .before .before .before .before .before .before .before .before .before .before .before .before .before .before .before .before .before .before .before .before .before .settle-family .result) (c .before .before .before .before .before .before .before .before .before .before .before .before .before .before .before .before .before .before .before .before .before .before .before .before .before .before .before .before .before .before .before .before .before .before .before .before .before .before .before .before .before .before .before .before .before .before .before .before .settle-family .last .1 .1 .0) (c .before .before .before .before .before .before .before .before .before .before .before .before .before .before .before .before .before .before .before .before .before .before .before .before .before .before .before .before .before .before .before .before .before .before .before .before .before .before .before .before .before .before .before .before .before .before .before .before .settle-family .last .1 .1 .1 .0) (c .before .before .before .before .before .before .before .before .before .before .before .before .before .before .before .before .before .before .before .before .before .before .before .before .before .before .before .before .before .before .before .before .before .before .before .before .before .before .before .before .before .before .before .before .before .before .before .before .settle-family .last .1 .1 .1 .1 .0) (c .before .before .before .before .before .before .before .before .before .before .before .before .before .before .before .before .before .before .before .before .before .before .before .before .before .before .before .before .before .before .before .before .before .before .before .before .before .before .before .before .before .before .before .before .before .before .before .before .settle-family .ensures)
+add-requires c κs = addable (start-of (c .before .before .before .before .before .before .before .before .before .before .before .before .before .before .before .before .before .before .before .before .before .before .before .before .before .before .before .before .before .before .before .before .before .before .before .before .before .before .before .before .before .before .before .before .before .before .before .before .before .before .before .before .before .before .before .before) .args .len) (start-of (c .before .before .before .before .before .before .before .before .before .before .before .before .before .before .before .before .before .before .before .before .before .before .before .before .before .before .before .before .before .before .before .before .before .before .before .before .before .before .before .before .before .before .before .before .before .before .before .before .before .before .before .before .before .before .before .before) .args .options) (start-of (c .before .before .before .before .before .before .before .before .before .before .before .before .before .before .before .before .before .before .before .before .before .before .before .before .before .before .before .before .before .before .before .before .before .before .before .before .before .before .before .before .before .before .before .before .before .before .before .before .before .before .before .before .before .before .before .before) .args .has-r1) (r1-of (c .before .before .before .before .before .before .before .before .before .before .before .before .before .before .before .before .before .before .before .before .before .before .before .before .before .before .before .before .before .before .before .before .before .before .before .before .before .before .before .before .before .before .before .before .before .before .before .before .before .before .before .before .before .before .before .before)) (start-of (c .before .before .before .before .before .before .before .before .before .before .before .before .before .before .before .before .before .before .before .before .before .before .before .before .before .before .before .before .before .before .before .before .before .before .before .before .before .before .before .before .before .before .before .before .before .before .before .before .before .before .before .before .before .before .before .before) .args .has-r2) (r2-of (c .before .before .before .before .before .before .before .before .before .before .before .before .before .before .before .before .before .before .before .before .before .before .before .before .before .before .before .before .before .before .before .before .before .before .before .before .before .before .before .before .before .before .before .before .before .before .before .before .before .before .before .before .before .before .before .before)) (lent-of (c .before .before .before .before .before .before .before .before .before .before .before .before .before .before .before .before .before .before .before .before .before .before .before .before .before .before .before .before .before .before .before .before .before .before .before .before .before .before .before .before .before .before .before .before .before .before .before .before .before .before .before .before .before .before .before .before)) (start-of (c .before .before .before .before .before .before .before .before .before .before .before .before .before .before .before .before .before .before .before .before .before .before .before .before .before .before .before .before .before .before .before .before .before .before .before .before .before .before .before .before .before .before .before .before .before .before .before .before .before .before .before .before .before .before .before .before) .args .ledger) (chosen-of (c .before .before .before .before .before .before .before .before .before .before .before .before .before .before .before .before .before .before .before .before .before .before .before .before .before .before .before .before .before .before .before .before .before .before .before .before .before .before .before .before .before .before .before .before .before .before .before .before .before .before .before .before .before .before .before .before) .decision) (own-of (c .before .before .before .before .before .before .before .before .before .before .before .before .before .before .before .before .before .before .before .before .before .before .before .before .before .before .before .before .before .before .before .before .before .before .before .before .before .before .before .before .before .before .before .before .before .before .before .before .before .before .before .before .before .before .before .before)) ((c .before .before .before .before .before .before .before .before .before .before .before .before .before .before .before .before .before .before .before .before .before .before .before .before .before .before .before .before .before .before .before .before .before .before .before .before .before .before .before .before .before .before .before .before .before .before .before .before .before .before .before .before .before .before .before .before) .refuse .result) ((c .before .before .before .before .before .before .before .before .before .before .before .before .before .before .before .before .before .before .before .before .before .before .before .before .before .before .before .before .before .before .before .before .before .before .before .before .before .before .before .before .before .before .before .before .before .before .before .before .before .before .before .before .before .before .before .before) .refuse .ensures) (some-of (c .before .before .before .before .before .before .before .before .before .before .before .before .before .before .before .before .before .before .before .before .before .before .before .before .before .before .before .before .before .before .before .before .before .before .before .before .before .before .before .before .before .before .before .before .before .before .before .before .before .before .before .before .before .before .before .before) .records) (some-of (c .before .before .before .before .before .before .before .before .before .before .before .before .before .before .before .before .before .before .before .before .before .before .before .before .before .before .before .before .before .before .before .before .before .before .before .before .before .before .before .before .before .before .before .before .before .before .before .before .before .before .before .before .before .before .before .before) .ops) (some-of (c .before .before .before .before .before .before .before .before .before .before .before .before .before .before .before .before .before .before .before .before .before .before .before .before .before .before .before .before .before .before .before .before .before .before .before .before .before .before .before .before .before .before .before .before .before .before .before .before .before .before .before .before .before .before .before .before) .size) (selected (c .before .before .before .before .before .before .before .before .before .before .before .before .before .before .before .before .before .before .before .before .before .before .before .before .before .before .before .before .before .before .before .before .before .before .before .before .before .before .before .before .before .before .before .before .before .before .before .before .before .before .before .before .before .before .before .before) (some-of (c .before .before .before .before .before .before .before .before .before .before .before .before .before .before .before .before .before .before .before .before .before .before .before .before .before .before .before .before .before .before .before .before .before .before .before .before .before .before .before .before .before .before .before .before .before .before .before .before .before .before .before .before .before .before .before .before) .records) (some-of (c .before .before .before .before .before .before .before .before .before .before .before .before .before .before .before .before .before .before .before .before .before .before .before .before .before .before .before .before .before .before .before .before .before .before .before .before .before .before .before .before .before .before .before .before .before .before .before .before .before .before .before .before .before .before .before .before) .ops) (some-of (c .before .before .before .before .before .before .before .before .before .before .before .before .before .before .before .before .before .before .before .before .before .before .before .before .before .before .before .before .before .before .before .before .before .before .before .before .before .before .before .before .before .before .before .before .before .before .before .before .before .before .before .before .before .before .before .before) .selected)) (c .before .before .before .before .before .before .before .before .before .before .before .before .before .before .before .before .before .before .before .before .before .before .before .before .before .before .before .before .before .before .before .before .before .before .before .before .before .before .before .before .before .before .before .before .before .before .before .before .before .before .before .before .before .before .enum-told .given .1) (c .before .before .before .before .before .before .before .before .before .before .before .before .before .before .before .before .before .before .before .before .before .before .before .before .before .before .before .before .before .before .before .before .before .before .before .before .before .before .before .before .before .before .before .before .before .before .before .before .before .before .before .before .before .end-family .result) (c .before .before .before .before .before .before .before .before .before .before .before .before .before .before .before .before .before .before .before .before .before .before .before .before .before .before .before .before .before .before .before .before .before .before .before .before .before .before .before .before .before .before .before .before .before .before .before .before .before .before .before .before .before .end-family .ensures) (c .before .before .before .before .before .before .before .before .before .before .before .before .before .before .before .before .before .before .before .before .before .before .before .before .before .before .before .before .before .before .before .before .before .before .before .before .before .before .before .before .before .before .before .before .before .before .before .before .settle-family .result) (c .before .before .before .before .before .before .before .before .before .before .before .before .before .before .before .before .before .before .before .before .before .before .before .before .before .before .before .before .before .before .before .before .before .before .before .before .before .before .before .before .before .before .before .before .before .before .before .before .settle-family .last .1 .1 .0) (c .before .before .before .before .before .before .before .before .before .before .before .before .before .before .before .before .before .before .before .before .before .before .before .before .before .before .before .before .before .before .before .before .before .before .before .before .before .before .before .before .before .before .before .before .before .before .before .before .settle-family .last .1 .1 .1 .0) (c .before .before .before .before .before .before .before .before .before .before .before .before .before .before .before .before .before .before .before .before .before .before .before .before .before .before .before .before .before .before .before .before .before .before .before .before .before .before .before .before .before .before .before .before .before .before .before .before .settle-family .last .1 .1 .1 .1 .0) (c .before .before .before .before .before .before .before .before .before .before .before .before .before .before .before .before .before .before .before .before .before .before .before .before .before .before .before .before .before .before .before .before .before .before .before .before .before .before .before .before .before .before .before .before .before .before .before .before .settle-family .ensures)
 
 same-length : tie.Need-same-length
 same-length c = c .before .before .before .before .before .before .before .before .before .before .before .before .before .before .before .before .before .before .before .before .before .before .before .before .before .before .write-columns .kept .1 .1 .1 .1 .1 .1 .1 .1 .1 .1 .1 .0
@@ -147,8 +139,8 @@ same-length-15 : tie.Need-same-length-15
 same-length-15 c = c .before .before .before .before .before .before .before .before .before .before .before .before .before .before .before .before .before .before .before .before .before .before .before .before .before .before .before .before .before .before .before .before .before .before .before .before .before .before .before .before .before .before .before .before .before .before .before .before .before .settle-family .kept .1 .1 .1 .1 .0
 
 returns-2 : tie.Need-returns-2
-returns-2 c = λ rs size front.
-    family-answered (columns-of (c .before .before .before .before .before .before .before .before .before .before .before .before .before .before .before .before .before .before .before .before .before .before .before .before .before .before .before .before .before .before .before .before .before .before .before .before .before .before .before .before .before .before .before .before .before .before .before .before .before .before .before .before .before .before .before .before .before)) (start-of (c .before .before .before .before .before .before .before .before .before .before .before .before .before .before .before .before .before .before .before .before .before .before .before .before .before .before .before .before .before .before .before .before .before .before .before .before .before .before .before .before .before .before .before .before .before .before .before .before .before .before .before .before .before .before .before .before .before) .args .len) (start-of (c .before .before .before .before .before .before .before .before .before .before .before .before .before .before .before .before .before .before .before .before .before .before .before .before .before .before .before .before .before .before .before .before .before .before .before .before .before .before .before .before .before .before .before .before .before .before .before .before .before .before .before .before .before .before .before .before .before) .args .options) (start-of (c .before .before .before .before .before .before .before .before .before .before .before .before .before .before .before .before .before .before .before .before .before .before .before .before .before .before .before .before .before .before .before .before .before .before .before .before .before .before .before .before .before .before .before .before .before .before .before .before .before .before .before .before .before .before .before .before .before) .args .ops .now) (start-of (c .before .before .before .before .before .before .before .before .before .before .before .before .before .before .before .before .before .before .before .before .before .before .before .before .before .before .before .before .before .before .before .before .before .before .before .before .before .before .before .before .before .before .before .before .before .before .before .before .before .before .before .before .before .before .before .before .before) .args .has-r1) (r1-of (c .before .before .before .before .before .before .before .before .before .before .before .before .before .before .before .before .before .before .before .before .before .before .before .before .before .before .before .before .before .before .before .before .before .before .before .before .before .before .before .before .before .before .before .before .before .before .before .before .before .before .before .before .before .before .before .before .before)) (start-of (c .before .before .before .before .before .before .before .before .before .before .before .before .before .before .before .before .before .before .before .before .before .before .before .before .before .before .before .before .before .before .before .before .before .before .before .before .before .before .before .before .before .before .before .before .before .before .before .before .before .before .before .before .before .before .before .before .before) .args .has-r2) (r2-of (c .before .before .before .before .before .before .before .before .before .before .before .before .before .before .before .before .before .before .before .before .before .before .before .before .before .before .before .before .before .before .before .before .before .before .before .before .before .before .before .before .before .before .before .before .before .before .before .before .before .before .before .before .before .before .before .before .before)) (lent-of (c .before .before .before .before .before .before .before .before .before .before .before .before .before .before .before .before .before .before .before .before .before .before .before .before .before .before .before .before .before .before .before .before .before .before .before .before .before .before .before .before .before .before .before .before .before .before .before .before .before .before .before .before .before .before .before .before .before)) (start-of (c .before .before .before .before .before .before .before .before .before .before .before .before .before .before .before .before .before .before .before .before .before .before .before .before .before .before .before .before .before .before .before .before .before .before .before .before .before .before .before .before .before .before .before .before .before .before .before .before .before .before .before .before .before .before .before .before .before) .args .ledger) (decision-of (c .before .before .before .before .before .before .before .before .before .before .before .before .before .before .before .before .before .before .before .before .before .before .before .before .before .before .before .before .before .before .before .before .before .before .before .before .before .before .before .before .before .before .before .before .before .before .before .before .before .before .before .before .before .before .before .before .before)) (own-of (c .before .before .before .before .before .before .before .before .before .before .before .before .before .before .before .before .before .before .before .before .before .before .before .before .before .before .before .before .before .before .before .before .before .before .before .before .before .before .before .before .before .before .before .before .before .before .before .before .before .before .before .before .before .before .before .before .before)) ((c .before .before .before .before .before .before .before .before .before .before .before .before .before .before .before .before .before .before .before .before .before .before .before .before .before .before .before .before .before .before .before .before .before .before .before .before .before .before .before .before .before .before .before .before .before .before .before .before .before .before .before .before .before .before .before .before .before) .refuse .result) (selects (c .before .before .before .before .before .before .before .before .before .before .before .before .before .before .before .before .before .before .before .before .before .before .before .before .before .before .before .before .before .before .before .before .before .before .before .before .before .before .before .before .before .before .before .before .before .before .before .before .before .before .before .before .before .before .before .before .before)) ((c .before .before .before .before .before .before .before .before .before .before .before .before .before .before .before .before .before .before .before .before .before .before .before .before .before .before .before .before .before .before .before .before .before .before .before .before .before .before .before .before .before .before .before .before .before .before .before .before .before .before .before .before .before .before .before .before .before) .refuse .ensures) rs (record { size = size; front = front }) (c .before .before .before .before .before .before .before .before .before .before .before .before .before .before .before .before .before .before .before .before .before .before .before .before .before .before .before .before .before .before .before .before .before .before .before .before .before .before .before .before .before .before .before .before .before .before .before .before .before .before .before .before .before .before .before .enum-told .given .1) (c .before .before .before .before .before .before .before .before .before .before .before .before .before .before .before .before .before .before .before .before .before .before .before .before .before .before .before .before .before .before .before .before .before .before .before .before .before .before .before .before .before .before .before .before .before .before .before .before .before .before .before .before .before .before .end-family .result) (c .before .before .before .before .before .before .before .before .before .before .before .before .before .before .before .before .before .before .before .before .before .before .before .before .before .before .before .before .before .before .before .before .before .before .before .before .before .before .before .before .before .before .before .before .before .before .before .before .before .before .before .before .before .before .end-family .ensures) (c .before .before .before .before .before .before .before .before .before .before .before .before .before .before .before .before .before .before .before .before .before .before .before .before .before .before .before .before .before .before .before .before .before .before .before .before .before .before .before .before .before .before .before .before .before .before .before .before .before .settle-family .result) (c .before .before .before .before .before .before .before .before .before .before .before .before .before .before .before .before .before .before .before .before .before .before .before .before .before .before .before .before .before .before .before .before .before .before .before .before .before .before .before .before .before .before .before .before .before .before .before .before .before .settle-family .last .1 .1 .0) (c .before .before .before .before .before .before .before .before .before .before .before .before .before .before .before .before .before .before .before .before .before .before .before .before .before .before .before .before .before .before .before .before .before .before .before .before .before .before .before .before .before .before .before .before .before .before .before .before .before .settle-family .last .1 .1 .1 .0) (c .before .before .before .before .before .before .before .before .before .before .before .before .before .before .before .before .before .before .before .before .before .before .before .before .before .before .before .before .before .before .before .before .before .before .before .before .before .before .before .before .before .before .before .before .before .before .before .before .before .settle-family .last .1 .1 .1 .1 .0) (c .before .before .before .before .before .before .before .before .before .before .before .before .before .before .before .before .before .before .before .before .before .before .before .before .before .before .before .before .before .before .before .before .before .before .before .before .before .before .before .before .before .before .before .before .before .before .before .before .before .settle-family .ensures) (duplex (c .before .before .before .before .before .before .before .before .before .before .before .before .before .before .before .before .before .before .before .before .before .before .before .before .before .before .write-columns .last .1 .1 .1 .1 .1 .1 .1 .1 .1 .1 .1 .0) (c .before .before .before .before .before .before .before .before .before .before .before .before .before .before .before .before .before .before .before .before .before .before .before .before .before .before .write-columns .last .1 .1 .1 .1 .1 .1 .1 .1 .1 .1 .1 .1 .0) (c .before .before .before .before .before .before .before .before .before .before .before .before .before .before .before .before .before .before .before .before .before .before .before .before .before .before .write-columns .last .1 .1 .1 .1 .1 .1 .1 .1 .1 .1 .1 .1 .1 .0) (c .before .before .before .before .before .before .before .before .before .before .before .before .before .before .before .before .before .before .before .before .before .before .before .before .before .before .write-columns .last .1 .1 .1 .1 .1 .1 .1 .1 .1 .1 .1 .1 .1 .1 .0)) (strand (c .before .before .before .before .before .before .before .before .before .before .before .before .before .before .before .before .before .before .before .before .before .before .before .before .before .before .write-columns .last .1 .1 .1 .1 .1 .1 .1 .1 .1 .1 .1 .1 .1 .1 .1 .0) (c .before .before .before .before .before .before .before .before .before .before .before .before .before .before .before .before .before .before .before .before .before .before .before .before .before .before .write-columns .last .1 .1 .1 .1 .1 .1 .1 .1 .1 .1 .1 .1 .1 .1 .1 .1 .0) (c .before .before .before .before .before .before .before .before .before .before .before .before .before .before .before .before .before .before .before .before .before .before .before .before .before .before .write-columns .last .1 .1 .1 .1 .1 .1 .1 .1 .1 .1 .1 .1 .1 .1 .1 .1 .1 .0) (c .before .before .before .before .before .before .before .before .before .before .before .before .before .before .before .before .before .before .before .before .before .before .before .before .before .before .write-columns .last .1 .1 .1 .1 .1 .1 .1 .1 .1 .1 .1 .1 .1 .1 .1 .1 .1 .1 .0)) (strand (c .before .before .before .before .before .before .before .before .before .before .before .before .before .before .before .before .before .before .before .before .before .before .before .before .before .before .write-columns .last .1 .1 .1 .1 .1 .1 .1 .1 .1 .1 .1 .1 .1 .1 .1 .1 .1 .1 .1 .0) (c .before .before .before .before .before .before .before .before .before .before .before .before .before .before .before .before .before .before .before .before .before .before .before .before .before .before .write-columns .last .1 .1 .1 .1 .1 .1 .1 .1 .1 .1 .1 .1 .1 .1 .1 .1 .1 .1 .1 .1 .0) (c .before .before .before .before .before .before .before .before .before .before .before .before .before .before .before .before .before .before .before .before .before .before .before .before .before .before .write-columns .last .1 .1 .1 .1 .1 .1 .1 .1 .1 .1 .1 .1 .1 .1 .1 .1 .1 .1 .1 .1 .1 .0) (c .before .before .before .before .before .before .before .before .before .before .before .before .before .before .before .before .before .before .before .before .before .before .before .before .before .before .write-columns .last .1 .1 .1 .1 .1 .1 .1 .1 .1 .1 .1 .1 .1 .1 .1 .1 .1 .1 .1 .1 .1 .1 .0))
+returns-2 c = λ rs words size chosen.
+    family-answered (start-of (c .before .before .before .before .before .before .before .before .before .before .before .before .before .before .before .before .before .before .before .before .before .before .before .before .before .before .before .before .before .before .before .before .before .before .before .before .before .before .before .before .before .before .before .before .before .before .before .before .before .before .before .before .before .before .before .before .before) .args .len) (start-of (c .before .before .before .before .before .before .before .before .before .before .before .before .before .before .before .before .before .before .before .before .before .before .before .before .before .before .before .before .before .before .before .before .before .before .before .before .before .before .before .before .before .before .before .before .before .before .before .before .before .before .before .before .before .before .before .before .before) .args .options) (start-of (c .before .before .before .before .before .before .before .before .before .before .before .before .before .before .before .before .before .before .before .before .before .before .before .before .before .before .before .before .before .before .before .before .before .before .before .before .before .before .before .before .before .before .before .before .before .before .before .before .before .before .before .before .before .before .before .before .before) .args .has-r1) (r1-of (c .before .before .before .before .before .before .before .before .before .before .before .before .before .before .before .before .before .before .before .before .before .before .before .before .before .before .before .before .before .before .before .before .before .before .before .before .before .before .before .before .before .before .before .before .before .before .before .before .before .before .before .before .before .before .before .before .before)) (start-of (c .before .before .before .before .before .before .before .before .before .before .before .before .before .before .before .before .before .before .before .before .before .before .before .before .before .before .before .before .before .before .before .before .before .before .before .before .before .before .before .before .before .before .before .before .before .before .before .before .before .before .before .before .before .before .before .before .before) .args .has-r2) (r2-of (c .before .before .before .before .before .before .before .before .before .before .before .before .before .before .before .before .before .before .before .before .before .before .before .before .before .before .before .before .before .before .before .before .before .before .before .before .before .before .before .before .before .before .before .before .before .before .before .before .before .before .before .before .before .before .before .before .before)) (lent-of (c .before .before .before .before .before .before .before .before .before .before .before .before .before .before .before .before .before .before .before .before .before .before .before .before .before .before .before .before .before .before .before .before .before .before .before .before .before .before .before .before .before .before .before .before .before .before .before .before .before .before .before .before .before .before .before .before .before)) (start-of (c .before .before .before .before .before .before .before .before .before .before .before .before .before .before .before .before .before .before .before .before .before .before .before .before .before .before .before .before .before .before .before .before .before .before .before .before .before .before .before .before .before .before .before .before .before .before .before .before .before .before .before .before .before .before .before .before .before) .args .ledger) (chosen-of (c .before .before .before .before .before .before .before .before .before .before .before .before .before .before .before .before .before .before .before .before .before .before .before .before .before .before .before .before .before .before .before .before .before .before .before .before .before .before .before .before .before .before .before .before .before .before .before .before .before .before .before .before .before .before .before .before .before) .decision) (own-of (c .before .before .before .before .before .before .before .before .before .before .before .before .before .before .before .before .before .before .before .before .before .before .before .before .before .before .before .before .before .before .before .before .before .before .before .before .before .before .before .before .before .before .before .before .before .before .before .before .before .before .before .before .before .before .before .before .before)) ((c .before .before .before .before .before .before .before .before .before .before .before .before .before .before .before .before .before .before .before .before .before .before .before .before .before .before .before .before .before .before .before .before .before .before .before .before .before .before .before .before .before .before .before .before .before .before .before .before .before .before .before .before .before .before .before .before .before) .refuse .result) ((c .before .before .before .before .before .before .before .before .before .before .before .before .before .before .before .before .before .before .before .before .before .before .before .before .before .before .before .before .before .before .before .before .before .before .before .before .before .before .before .before .before .before .before .before .before .before .before .before .before .before .before .before .before .before .before .before .before) .refuse .ensures) rs words size (selected (c .before .before .before .before .before .before .before .before .before .before .before .before .before .before .before .before .before .before .before .before .before .before .before .before .before .before .before .before .before .before .before .before .before .before .before .before .before .before .before .before .before .before .before .before .before .before .before .before .before .before .before .before .before .before .before .before .before) rs words chosen) (c .before .before .before .before .before .before .before .before .before .before .before .before .before .before .before .before .before .before .before .before .before .before .before .before .before .before .before .before .before .before .before .before .before .before .before .before .before .before .before .before .before .before .before .before .before .before .before .before .before .before .before .before .before .before .before .enum-told .given .1) (c .before .before .before .before .before .before .before .before .before .before .before .before .before .before .before .before .before .before .before .before .before .before .before .before .before .before .before .before .before .before .before .before .before .before .before .before .before .before .before .before .before .before .before .before .before .before .before .before .before .before .before .before .before .before .end-family .result) (c .before .before .before .before .before .before .before .before .before .before .before .before .before .before .before .before .before .before .before .before .before .before .before .before .before .before .before .before .before .before .before .before .before .before .before .before .before .before .before .before .before .before .before .before .before .before .before .before .before .before .before .before .before .before .end-family .ensures) (c .before .before .before .before .before .before .before .before .before .before .before .before .before .before .before .before .before .before .before .before .before .before .before .before .before .before .before .before .before .before .before .before .before .before .before .before .before .before .before .before .before .before .before .before .before .before .before .before .before .settle-family .result) (c .before .before .before .before .before .before .before .before .before .before .before .before .before .before .before .before .before .before .before .before .before .before .before .before .before .before .before .before .before .before .before .before .before .before .before .before .before .before .before .before .before .before .before .before .before .before .before .before .before .settle-family .last .1 .1 .0) (c .before .before .before .before .before .before .before .before .before .before .before .before .before .before .before .before .before .before .before .before .before .before .before .before .before .before .before .before .before .before .before .before .before .before .before .before .before .before .before .before .before .before .before .before .before .before .before .before .before .settle-family .last .1 .1 .1 .0) (c .before .before .before .before .before .before .before .before .before .before .before .before .before .before .before .before .before .before .before .before .before .before .before .before .before .before .before .before .before .before .before .before .before .before .before .before .before .before .before .before .before .before .before .before .before .before .before .before .before .settle-family .last .1 .1 .1 .1 .0) (c .before .before .before .before .before .before .before .before .before .before .before .before .before .before .before .before .before .before .before .before .before .before .before .before .before .before .before .before .before .before .before .before .before .before .before .before .before .before .before .before .before .before .before .before .before .before .before .before .before .settle-family .ensures) (duplex (c .before .before .before .before .before .before .before .before .before .before .before .before .before .before .before .before .before .before .before .before .before .before .before .before .before .before .write-columns .last .1 .1 .1 .1 .1 .1 .1 .1 .1 .1 .1 .0) (c .before .before .before .before .before .before .before .before .before .before .before .before .before .before .before .before .before .before .before .before .before .before .before .before .before .before .write-columns .last .1 .1 .1 .1 .1 .1 .1 .1 .1 .1 .1 .1 .0) (c .before .before .before .before .before .before .before .before .before .before .before .before .before .before .before .before .before .before .before .before .before .before .before .before .before .before .write-columns .last .1 .1 .1 .1 .1 .1 .1 .1 .1 .1 .1 .1 .1 .0) (c .before .before .before .before .before .before .before .before .before .before .before .before .before .before .before .before .before .before .before .before .before .before .before .before .before .before .write-columns .last .1 .1 .1 .1 .1 .1 .1 .1 .1 .1 .1 .1 .1 .1 .0)) (strand (c .before .before .before .before .before .before .before .before .before .before .before .before .before .before .before .before .before .before .before .before .before .before .before .before .before .before .write-columns .last .1 .1 .1 .1 .1 .1 .1 .1 .1 .1 .1 .1 .1 .1 .1 .0) (c .before .before .before .before .before .before .before .before .before .before .before .before .before .before .before .before .before .before .before .before .before .before .before .before .before .before .write-columns .last .1 .1 .1 .1 .1 .1 .1 .1 .1 .1 .1 .1 .1 .1 .1 .1 .0) (c .before .before .before .before .before .before .before .before .before .before .before .before .before .before .before .before .before .before .before .before .before .before .before .before .before .before .write-columns .last .1 .1 .1 .1 .1 .1 .1 .1 .1 .1 .1 .1 .1 .1 .1 .1 .1 .0) (c .before .before .before .before .before .before .before .before .before .before .before .before .before .before .before .before .before .before .before .before .before .before .before .before .before .before .write-columns .last .1 .1 .1 .1 .1 .1 .1 .1 .1 .1 .1 .1 .1 .1 .1 .1 .1 .1 .0)) (strand (c .before .before .before .before .before .before .before .before .before .before .before .before .before .before .before .before .before .before .before .before .before .before .before .before .before .before .write-columns .last .1 .1 .1 .1 .1 .1 .1 .1 .1 .1 .1 .1 .1 .1 .1 .1 .1 .1 .1 .0) (c .before .before .before .before .before .before .before .before .before .before .before .before .before .before .before .before .before .before .before .before .before .before .before .before .before .before .write-columns .last .1 .1 .1 .1 .1 .1 .1 .1 .1 .1 .1 .1 .1 .1 .1 .1 .1 .1 .1 .1 .0) (c .before .before .before .before .before .before .before .before .before .before .before .before .before .before .before .before .before .before .before .before .before .before .before .before .before .before .write-columns .last .1 .1 .1 .1 .1 .1 .1 .1 .1 .1 .1 .1 .1 .1 .1 .1 .1 .1 .1 .1 .1 .0) (c .before .before .before .before .before .before .before .before .before .before .before .before .before .before .before .before .before .before .before .before .before .before .before .before .before .before .write-columns .last .1 .1 .1 .1 .1 .1 .1 .1 .1 .1 .1 .1 .1 .1 .1 .1 .1 .1 .1 .1 .1 .1 .0))
     (rw (c .before .before .before .before .before .before .before .before .before .before .before .before .before .before .before .before .before .before .before .before .before .before .before .before .before .before .before .before .before .before .before .before .before .before .before .before .before .before .before .before .is-called .ensures, c .before .before .before .before .before .before .before .before .before .before .before .before .before .before .before .before .before .before .before .before .before .before .before .before .before .before .before .before .before .before .before .before .before .before .before .before .before .before .before .frame-of .ensures) at (c .before .before .before .before .before .before .before .before .before .before .before .before .before .before .before .before .before .before .before .before .before .before .before .before .before .before .write-columns .ensures)) _ (c .before .report .ensures) refl (c .add .ensures)
 
 pub consensus-reads-raw-spec : {M : Type 1} → statement M
@@ -156,7 +148,6 @@ consensus-reads-raw-spec =
     tie.close
     (tie.spec
     room-requires
-    select-fates-requires
     refuse-requires
     enum-known-refusal
     refused-requires

@@ -1,7 +1,7 @@
 -- The answer's numbers, of what `rates` ensures.
 use mathlib.Core.Path.{_∙_, ap}
 use borrow.Author.Needs.{needs}
-use Rattle.codec_ffi.specs.Rates.{reportedRates}
+use Rattle.codec_stats.specs.Reported.{reportedRates}
 use Rattle.codec_ffi.proofs.rates.codec_ffi_rates.Statement.{statement}
 use Rattle.codec_ffi.proofs.rates.codec_ffi_rates.Tie as tie
 

@@ -1,4 +1,4 @@
--- `codec_ffi::select::codec_ffi_select` meets its contract: a walk of its MIR, by hand, with three calls. Of each callee the proof knows only that it meets its contract.
+-- `codec_ffi::select::codec_ffi_select` meets its contract: a walk of its MIR, by hand, with three calls, written by tools/write_select_walk. Of each callee the proof knows only that it meets its contract.
 -- `gather` gives the columns of the records by value, and `report_columns` selects among them. A `&[T]` is Copy: what the two own is had twice, one copy goes to the callee and the other is kept for the exit.
 -- Assumes nothing.
 use mathlib.Core.Bool.{cond}
@@ -40,34 +40,33 @@ use denote.Triple.Clauses.{ensured, lasts}
 use denote.Triple.Table.{entered, cited}
 use denote.Triple.Walked.{says, Stays, stay-none, stay-none-slice, walkOf, goes-none, goes-none-slice, Walks, ends-at, walked, walk-meets}
 use denote.Exit.{yes}
-use Rattle.codec_select.specs.Records.{Holds}
-use Rattle.codec_select.specs.declared.columns.Columns.{Columns}
-use Rattle.codec_select.specs.declared.options.Options.{Options}
-use Rattle.codec_select.specs.declared.records.Record.{Record}
-use Rattle.codec_select.proofs.Holding.{holds-all}
-use Rattle.codec_select.proofs.columns.Columns as Co
-use Rattle.codec_select.proofs.columns.Columns.Laws as Co′
-use Rattle.codec_select.proofs.options.Options as O
-use Rattle.codec_select.proofs.options.Options.Laws as O′
-use Rattle.codec_select.proofs.records.Record as R
-use Rattle.codec_select.proofs.records.Record.Laws as R′
-use Rattle.codec_select.proofs.alone.room as room
-use Rattle.codec_select.proofs.alone.room.Symbol as room-def
-use Rattle.codec_select.proofs.alone.room.Symbol.{name as #codec_select·room}
-use Rattle.codec_select.proofs.alone.room.Met as room-thm
-use Rattle.codec_select.proofs.records.gather as gather
-use Rattle.codec_select.proofs.records.gather.Symbol as gather-def
-use Rattle.codec_select.proofs.records.gather.Symbol.{name as #codec_select·gather}
-use Rattle.codec_select.proofs.records.gather.Met as gather-thm
-use Rattle.codec_ffi.specs.Select.{SelectingRecords}
-use Rattle.codec_ffi.specs.declared.select.SelectAnswer.{SelectAnswer}
-use Rattle.codec_ffi.proofs.select.SelectAnswer as S
-use Rattle.codec_ffi.proofs.select.SelectAnswer.Laws as S′
-use Rattle.codec_ffi.proofs.select.report_columns as report
-use Rattle.codec_ffi.proofs.select.report_columns.Symbol as report-def
-use Rattle.codec_ffi.proofs.select.report_columns.Symbol.{name as #codec_ffi·report-columns}
-use Rattle.codec_ffi.proofs.select.report_columns.Met as report-thm
-use Rattle.codec_ffi.proofs.select.codec_ffi_select.Key.{name as #codec_ffi·select}
+use Rattle.codec_records.specs.Records.{Holds}
+use Rattle.codec_records.specs.declared.columns.Columns.{Columns}
+use Rattle.codec_records.specs.declared.options.Options.{Options}
+use Rattle.codec_records.specs.declared.records.Record.{Record}
+use Rattle.codec_records.proofs.Holding.{holds-all}
+use Rattle.codec_records.proofs.columns.Columns as Co
+use Rattle.codec_records.proofs.columns.Columns.Laws as Co′
+use Rattle.codec_records.proofs.options.Options as O
+use Rattle.codec_records.proofs.options.Options.Laws as O′
+use Rattle.codec_records.proofs.records.Record as R
+use Rattle.codec_records.proofs.room.room as room
+use Rattle.codec_records.proofs.room.room.Symbol as room-def
+use Rattle.codec_records.proofs.room.room.Symbol.{name as #room}
+use Rattle.codec_records.proofs.room.room.Met as room-thm
+use Rattle.codec_records.proofs.records.gather as gather
+use Rattle.codec_records.proofs.records.gather.Symbol as gather-def
+use Rattle.codec_records.proofs.records.gather.Symbol.{name as #gather}
+use Rattle.codec_records.proofs.records.gather.Met as gather-thm
+use Rattle.record_selection.specs.Reported.{SelectingRecords}
+use Rattle.record_selection.specs.declared.report.SelectAnswer.{SelectAnswer}
+use Rattle.record_selection.proofs.report.SelectAnswer as S
+use Rattle.record_selection.proofs.report.SelectAnswer.Laws as S′
+use Rattle.record_selection.proofs.report.report_columns as on
+use Rattle.record_selection.proofs.report.report_columns.Symbol as on-def
+use Rattle.record_selection.proofs.report.report_columns.Symbol.{name as #on}
+use Rattle.record_selection.proofs.report.report_columns.Met as on-thm
+use Rattle.codec_ffi.proofs.select.codec_ffi_select.Key.{name as #f}
 use Rattle.codec_ffi.proofs.select.codec_ffi_select as f
 use Rattle.codec_ffi.proofs.select.codec_ffi_select.Statement as stated
 use Rattle.codec_ffi.proofs.select.codec_ffi_select.Code as code
@@ -91,6 +90,10 @@ Within len n = (n ≤ len) × (n ≤ 512)
 abbrev Gathered : List Record → ℕ → Columns → Type 0
 Gathered ys n cols = Holds cols n (take n ys)
 
+-- what is promised of the answer
+abbrev Promised : Options → ℕ → List Record → List ℕ → SelectAnswer → Type 0
+Promised o len records ops r = SelectingRecords o len records ops r
+
 module _ {M : Type 1} (𝓤 : URA M) (H : Heap 𝓤) (A : Atoms 𝓤) (mem : Memory → SProp 𝓤) (run : Routine → Fun 𝓤) where
   -- the contracts that the proof cites
   abbrev RoomC : Contract 𝓤
@@ -99,8 +102,8 @@ module _ {M : Type 1} (𝓤 : URA M) (H : Heap 𝓤) (A : Atoms 𝓤) (mem : Mem
   abbrev GatherC : Contract 𝓤
   GatherC = tripleOf 𝓤 H A gather.signature (gather.spec 𝓤 H A mem run)
 
-  abbrev ReportC : Contract 𝓤
-  ReportC = tripleOf 𝓤 H A report.signature (report.spec 𝓤 H A mem run)
+  abbrev OnC : Contract 𝓤
+  OnC = tripleOf 𝓤 H A on.signature (on.spec 𝓤 H A mem run)
 
 module _ {M : Type 1} (𝓤 : URA M) (H : Heap 𝓤) (A : Atoms 𝓤) (W : Given 𝓤 H A) (mem : Memory → SProp 𝓤) (run : Routine → Fun 𝓤) (κ₀ κ₁ : Lft) (q₀ q₁ : Share) (x₀ : RefT (List Record)) (x₁ : RefT (List ℕ)) (o : Options) where
   abbrev κs : Lfts 2
@@ -168,27 +171,27 @@ module _ {M : Type 1} (𝓤 : URA M) (H : Heap 𝓤) (A : Atoms 𝓤) (W : Given
   gather-of : (n : ℕ) (cols : Columns) → ent 𝓤 (ensured 𝓤 H A gather.ended (gather.clauses 𝓤 H A mem run) (κ₀, tt) (x₀, (n, tt)) tt cols) (fact 𝓤 (Gathered (now x₀) n cols))
   gather-of n cols = exE 𝓤 _ (λ ws. snd∗ 𝓤 (sem 𝓤 H A (lasts gather.ended (κ₀, tt) (x₀, (n, tt)) ws)) (fact 𝓤 (Gathered (now x₀) n cols)))
 
-  abbrev ReportArg : Type 0
-  ReportArg = Columns × (ℕ × (RefT (List ℕ) × (Options × Unit {0})))
+  abbrev OnArg : Type 0
+  OnArg = Columns × (ℕ × (RefT (List ℕ) × (Options × Unit {0})))
 
-  abbrev report-args : Columns → ReportArg
-  report-args cols = (cols, (len, (x₁, (o, tt))))
+  abbrev on-args : Columns → OnArg
+  on-args cols = (cols, (len, (x₁, (o, tt))))
 
-  abbrev to-report : Columns → Val → ReportC 𝓤 H A mem run .Ghost
-  to-report cols w = (((κ₁, tt), (q₁, tt), tt, report-args cols, (w ∷ [], (vint w64 len ∷ [], (s₁ ∷ [], (s₂ ∷ [], tt))))), tt)
+  abbrev to-on : Columns → Val → OnC 𝓤 H A mem run .Ghost
+  to-on cols w = (((κ₁, tt), (q₁, tt), tt, on-args cols, (w ∷ [], (vint w64 len ∷ [], (s₁ ∷ [], (s₂ ∷ [], tt))))), tt)
 
-  goes-report : (cols : Columns) (w : Val) → len < 2 ^ 64 → ent 𝓤 (⋆ 𝓤 H A (Tok ∷ ‵ (columns-of .own cols (w ∷ [])) ∷ ‵ Rest ∷ [])) (ReportC 𝓤 H A mem run .pre (to-report cols w))
-  goes-report cols w fits =
+  goes-on : (cols : Columns) (w : Val) → len < 2 ^ 64 → ent 𝓤 (⋆ 𝓤 H A (Tok ∷ ‵ (columns-of .own cols (w ∷ [])) ∷ ‵ Rest ∷ [])) (OnC 𝓤 H A mem run .pre (to-on cols w))
+  goes-on cols w fits =
       qed W (Tok ∷ ‵ (columns-of .own cols (w ∷ [])) ∷ ‵ Rest ∷ []) ∵ owned ! usize (Is usize) (uint-makes 𝓤 H A W w64) len _ (refl, fits) $
       move ! (0 ∷ 3 ∷ []) $ fjoin ! $ move ! (2 ∷ 0 ∷ []) $ fjoin ! $ move ! (1 ∷ 0 ∷ []) $ join ! $ frame ! $ done !
 
-  abbrev Reported : Columns → SelectAnswer → Type 0
-  Reported cols r = (records : List Record) → (len ≤ 512 → Holds cols len records) → SelectingRecords o len records (now x₁) r
+  abbrev Worked : Columns → SelectAnswer → Type 0
+  Worked cols r = (records : List Record) → (len ≤ 512 → Holds cols len records) → Promised o len records (now x₁) r
 
-  report-of : (cols : Columns) (r : SelectAnswer) → ent 𝓤 (ensured 𝓤 H A report.ended (report.clauses 𝓤 H A mem run) (κ₁, tt) (report-args cols) tt r) (fact 𝓤 (Reported cols r))
-  report-of cols r = exE 𝓤 _ (λ ws. snd∗ 𝓤 (sem 𝓤 H A (lasts report.ended (κ₁, tt) (report-args cols) ws)) (fact 𝓤 (Reported cols r)))
+  on-of : (cols : Columns) (r : SelectAnswer) → ent 𝓤 (ensured 𝓤 H A on.ended (on.clauses 𝓤 H A mem run) (κ₁, tt) (on-args cols) tt r) (fact 𝓤 (Worked cols r))
+  on-of cols r = exE 𝓤 _ (λ ws. snd∗ 𝓤 (sem 𝓤 H A (lasts on.ended (κ₁, tt) (on-args cols) ws)) (fact 𝓤 (Worked cols r)))
 
-  exits : (r : SelectAnswer) (v : Val) → Is O.the-row o (s₂ ∷ []) → SelectingRecords o len (now x₀) (now x₁) r
+  exits : (r : SelectAnswer) (v : Val) → Is O.the-row o (s₂ ∷ []) → Promised o len (now x₀) (now x₁) r
       → ent 𝓤 (⋆ 𝓤 H A ((‵ (flft κ₀ q₀) ⊛ ‵ ftrue) ∷ Tok ∷ ‵ Own₀ ∷ ‵ Own₁ ∷ ‵ (S.the-row .own r (v ∷ [])) ∷ [])) (Post v)
   exits r v is d =
       qed W ((‵ (flft κ₀ q₀) ⊛ ‵ ftrue) ∷ Tok ∷ ‵ Own₀ ∷ ‵ Own₁ ∷ ‵ (S.the-row .own r (v ∷ [])) ∷ []) ∵
@@ -196,7 +199,7 @@ module _ {M : Type 1} (𝓤 : URA M) (H : Heap 𝓤) (A : Atoms 𝓤) (W : Given
       split ! $ move ! (0 ∷ 2 ∷ []) $ join ! $ frame ! $
       owned ! O.the-row (Is O.the-row) (LL.makes O.the-type O′.the-plain 𝓤 H A) o (s₂ ∷ []) is $ fjoin ! $ move ! (2 ∷ 0 ∷ []) $ fjoin ! $ move ! (1 ∷ 0 ∷ []) $ fjoin ! $ done !
 
-  module _ (C : Calls 𝓤 H) (Λ : Loops 𝓤 H) (fm : FmC 𝓤 H (W .laws) C) (known-room : Triple 𝓤 (C #codec_select·room) (RoomC 𝓤 H A mem run)) (known-gather : Triple 𝓤 (C #codec_select·gather) (GatherC 𝓤 H A mem run)) (known-report : Triple 𝓤 (C #codec_ffi·report-columns) (ReportC 𝓤 H A mem run)) where
+  module _ (C : Calls 𝓤 H) (Λ : Loops 𝓤 H) (fm : FmC 𝓤 H (W .laws) C) (known-room : Triple 𝓤 (C #room) (RoomC 𝓤 H A mem run)) (known-gather : Triple 𝓤 (C #gather) (GatherC 𝓤 H A mem run)) (known-on : Triple 𝓤 (C #on) (OnC 𝓤 H A mem run)) where
     walk : Room row-of len → Room u32 (length (now x₁)) → Is O.the-row o (s₂ ∷ []) → ent 𝓤 (onEntry 𝓤 H A f.signature κs qs a vals) (WpFn 𝓤 H C Λ code.function (s₀ ∷ s₁ ∷ s₂ ∷ []) Post)
     walk g₀ g₁ is =
         qed W ((‵ (flft κ₀ q₀) ⊛ Tok) ∷ ‵ (fsep Own₀ Rest) ∷ []) ∵ enter ! C Λ code.function (s₀ ∷ s₁ ∷ s₂ ∷ []) _ $
@@ -219,10 +222,10 @@ module _ {M : Type 1} (𝓤 : URA M) (H : Heap 𝓤) (A : Atoms 𝓤) (W : Given
         split ! $ move ! (1 ∷ []) $ use1 W (raw (fact 𝓤 (Gathered (now x₀) n cols))) (gather-of n cols) $ heard ! (Gathered (now x₀) n cols) (λ e. split ! $ move ! (1 ∷ []) $
         peeks ! columns-of (Is columns-of) (shows 𝓤 H A columns-of) cols (w ∷ []) (λ ist. land ! (from ! (stop !)) (init ! 6 refl (LL.lawful Co.the-type Co′.the-laws 𝓤 H A W .typed cols _ ist .0)) $
         -- `report_columns`. [what the columns own; the first token; what ops and options own; what ops owns; what records owns; the other token; _6; …; _0; …]
-        move ! (5 ∷ 0 ∷ 2 ∷ []) $ use3 W (raw (ReportC 𝓤 H A mem run .pre (to-report cols w))) (goes-report cols w (g₀ .0)) $
-        calls-at ! fm (ReportC 𝓤 H A mem run) known-report (to-report cols w) (and-then ! (load ! (from ! (stop !)) (look ! 4 refl)) (and-then ! (load ! (from ! (stop !)) (look ! 8 refl)) (and-then ! (load ! (from ! (stop !)) (look ! 12 refl)) (and-then ! (load ! (from ! (stop !)) (look ! 10 refl)) (no-more !))))) (λ v.
-        use1 W (later (some (λ (r : SelectAnswer). (Tok ⊛ ‵ (S.the-row .own r (v ∷ []))) ⊛ raw (ensured 𝓤 H A report.ended (report.clauses 𝓤 H A mem run) (κ₁, tt) (report-args cols) tt r)))) (id⊢ 𝓤 _) $ await ! tt $ pick ! (λ r.
-        split ! $ move ! (1 ∷ []) $ use1 W (raw (fact 𝓤 (Reported cols r))) (report-of cols r) $ heard ! (Reported cols r) (λ d. split ! $ move ! (1 ∷ []) $
+        move ! (5 ∷ 0 ∷ 2 ∷ []) $ use3 W (raw (OnC 𝓤 H A mem run .pre (to-on cols w))) (goes-on cols w (g₀ .0)) $
+        calls-at ! fm (OnC 𝓤 H A mem run) known-on (to-on cols w) (and-then ! (load ! (from ! (stop !)) (look ! 4 refl)) (and-then ! (load ! (from ! (stop !)) (look ! 8 refl)) (and-then ! (load ! (from ! (stop !)) (look ! 12 refl)) (and-then ! (load ! (from ! (stop !)) (look ! 10 refl)) (no-more !))))) (λ v.
+        use1 W (later (some (λ (r : SelectAnswer). (Tok ⊛ ‵ (S.the-row .own r (v ∷ []))) ⊛ raw (ensured 𝓤 H A on.ended (on.clauses 𝓤 H A mem run) (κ₁, tt) (on-args cols) tt r)))) (id⊢ 𝓤 _) $ await ! tt $ pick ! (λ r.
+        split ! $ move ! (1 ∷ []) $ use1 W (raw (fact 𝓤 (Worked cols r))) (on-of cols r) $ heard ! (Worked cols r) (λ d. split ! $ move ! (1 ∷ []) $
         -- [the result; the other token; the first; what ops owns; what records owns; _6; …; _0; …]
         peeks ! S.the-row (Is S.the-row) (shows 𝓤 H A S.the-row) r (v ∷ []) (λ isr. land ! (from ! (stop !)) (init ! 17 refl (LL.lawful S.the-type S′.the-laws 𝓤 H A W .typed r _ isr .0)) $
         returns ! (look ! 17 refl) $ forget ! 5 refl $ forget ! 7 refl $ forget ! 9 refl $ forget ! 11 refl $ forget ! 13 refl $ forget ! 15 refl $ forget ! 17 refl $
@@ -231,26 +234,26 @@ module _ {M : Type 1} (𝓤 : URA M) (H : Heap 𝓤) (A : Atoms 𝓤) (W : Given
         by ! (exits r v is (d (now x₀) (holds-all cols (now x₀) n h e)))))))))))))))))))))))
 
 module _ {M : Type 1} (𝓤 : URA M) (H : Heap 𝓤) (A : Atoms 𝓤) (W : Given 𝓤 H A) (mem : Memory → SProp 𝓤) (run : Routine → Fun 𝓤) where
-  f-walks : (C : Calls 𝓤 H) (Λ : Loops 𝓤 H) → FmC 𝓤 H (W .laws) C → Triple 𝓤 (C #codec_select·room) (RoomC 𝓤 H A mem run) → Triple 𝓤 (C #codec_select·gather) (GatherC 𝓤 H A mem run) → Triple 𝓤 (C #codec_ffi·report-columns) (ReportC 𝓤 H A mem run)
+  f-walks : (C : Calls 𝓤 H) (Λ : Loops 𝓤 H) → FmC 𝓤 H (W .laws) C → Triple 𝓤 (C #room) (RoomC 𝓤 H A mem run) → Triple 𝓤 (C #gather) (GatherC 𝓤 H A mem run) → Triple 𝓤 (C #on) (OnC 𝓤 H A mem run)
       → Walks 𝓤 H A f.ended stayed (WpFn 𝓤 H C Λ code.function) (f.clauses 𝓤 H A mem run)
-  f-walks C Λ fm known-room known-gather known-report = walked 𝓤 H A f.ended stayed (f.clauses 𝓤 H A mem run) (WpFn 𝓤 H C Λ code.function)
+  f-walks C Λ fm known-room known-gather known-on = walked 𝓤 H A f.ended stayed (f.clauses 𝓤 H A mem run) (WpFn 𝓤 H C Λ code.function)
       (λ κs. (slice-vals, (slice-vals, (LL.vals O.the-type O′.the-laws, tt)))) (λ κs. (shr-slice-tells (named 0) (κs .0) row-of, (shr-slice-tells (named 1) (κs .1 .0) u32, (LL.tells O.the-type O′.the-laws, tt))))
       (λ κs qs bounds a g are. via 𝓤 _ (fst∗ 𝓤 _ (emp 𝓤))
-      (walk 𝓤 H A W mem run (κs .0) (κs .1 .0) (qs .0) (qs .1 .0) (a .0) (a .1 .0) (a .1 .1 .0) C Λ fm known-room known-gather known-report (are .0 .0 .1) (are .1 .0 .0 .1) (are .1 .1 .0)))
+      (walk 𝓤 H A W mem run (κs .0) (κs .1 .0) (qs .0) (qs .1 .0) (a .0) (a .1 .0) (a .1 .1 .0) C Λ fm known-room known-gather known-on (are .0 .0 .1) (are .1 .0 .0 .1) (are .1 .1 .0)))
 
 f-meets : {M : Type 1} (𝓤 : URA M) (H : Heap 𝓤) (A : Atoms 𝓤) → Given 𝓤 H A → (mem : Memory → SProp 𝓤) (run : Routine → Fun 𝓤) (𝓣 : Tables 𝓤 H)
-    → Triple 𝓤 (𝓣 .C #codec_select·room) (RoomC 𝓤 H A mem run) → Triple 𝓤 (𝓣 .C #codec_select·gather) (GatherC 𝓤 H A mem run) → Triple 𝓤 (𝓣 .C #codec_ffi·report-columns) (ReportC 𝓤 H A mem run)
+    → Triple 𝓤 (𝓣 .C #room) (RoomC 𝓤 H A mem run) → Triple 𝓤 (𝓣 .C #gather) (GatherC 𝓤 H A mem run) → Triple 𝓤 (𝓣 .C #on) (OnC 𝓤 H A mem run)
     → Meets 𝓤 H A f.signature (WpFn 𝓤 H (𝓣 .C) (𝓣 .Λ) code.function) (f.spec 𝓤 H A mem run)
-f-meets 𝓤 H A W mem run 𝓣 known-room known-gather known-report =
+f-meets 𝓤 H A W mem run 𝓣 known-room known-gather known-on =
     walk-meets 𝓤 H A f.ended stayed W (goes-none-slice 𝓤 H A W 2 (0 ∷ []) tt (plain (λ _. row-of)) yes, (goes-none-slice 𝓤 H A W 2 (1 ∷ []) tt (plain (λ _. u32)) yes, (goes-none 𝓤 H A W 2 (λ _. O.the-row) yes (λ κs x f. refl), tt))) (f.clauses 𝓤 H A mem run)
-    (WpFn 𝓤 H (𝓣 .C) (𝓣 .Λ) code.function) (WpFn-mono 𝓤 H (W .laws) 𝓣 code.function) (f-walks 𝓤 H A W mem run (𝓣 .C) (𝓣 .Λ) (fmOf 𝓤 H (W .laws) 𝓣) known-room known-gather known-report)
+    (WpFn 𝓤 H (𝓣 .C) (𝓣 .Λ) code.function) (WpFn-mono 𝓤 H (W .laws) 𝓣 code.function) (f-walks 𝓤 H A W mem run (𝓣 .C) (𝓣 .Λ) (fmOf 𝓤 H (W .laws) 𝓣) known-room known-gather known-on)
 
 pub codec-ffi-select-spec : {M : Type 1} → stated.statement M
 unfolding code.routine tablesOf
 codec-ffi-select-spec 𝓤 H 𝓜 𝓖 𝓡 =
     entered 𝓤 H (tripleOf 𝓤 H (𝓖 .A) f.signature (f.spec 𝓤 H (𝓖 .A) (𝓜 .mem) (𝓡 .run)))
-    (tables 𝓤 H 𝓜 𝓡 code.env .C) (tables 𝓤 H 𝓜 𝓡 code.env .Λ) #codec_ffi·select code.function (code.unfolded 𝓤 H 𝓜 𝓡)
+    (tables 𝓤 H 𝓜 𝓡 code.env .C) (tables 𝓤 H 𝓜 𝓡 code.env .Λ) #f code.function (code.unfolded 𝓤 H 𝓜 𝓡)
     (f-meets 𝓤 H (𝓖 .A) (givenOf 𝓤 H 𝓜 𝓖) (𝓜 .mem) (𝓡 .run) (tablesOf 𝓤 H 𝓜 (tables 𝓤 H 𝓜 𝓡 code.env))
-    (cited 𝓤 H (RoomC 𝓤 H (𝓖 .A) (𝓜 .mem) (𝓡 .run)) 𝓜 𝓡 code.env #codec_select·room room-def.routine code.calls-codec-select·alone·room (room-thm.met 𝓤 H 𝓜 𝓖 𝓡))
-    (cited 𝓤 H (GatherC 𝓤 H (𝓖 .A) (𝓜 .mem) (𝓡 .run)) 𝓜 𝓡 code.env #codec_select·gather gather-def.routine code.calls-codec-select·records·gather (gather-thm.met 𝓤 H 𝓜 𝓖 𝓡))
-    (cited 𝓤 H (ReportC 𝓤 H (𝓖 .A) (𝓜 .mem) (𝓡 .run)) 𝓜 𝓡 code.env #codec_ffi·report-columns report-def.routine code.calls-codec-ffi·select·report-columns (report-thm.met 𝓤 H 𝓜 𝓖 𝓡)))
+    (cited 𝓤 H (RoomC 𝓤 H (𝓖 .A) (𝓜 .mem) (𝓡 .run)) 𝓜 𝓡 code.env #room room-def.routine code.calls-codec-records·room·room (room-thm.met 𝓤 H 𝓜 𝓖 𝓡))
+    (cited 𝓤 H (GatherC 𝓤 H (𝓖 .A) (𝓜 .mem) (𝓡 .run)) 𝓜 𝓡 code.env #gather gather-def.routine code.calls-codec-records·records·gather (gather-thm.met 𝓤 H 𝓜 𝓖 𝓡))
+    (cited 𝓤 H (OnC 𝓤 H (𝓖 .A) (𝓜 .mem) (𝓡 .run)) 𝓜 𝓡 code.env #on on-def.routine code.calls-record-selection·report·report-columns (on-thm.met 𝓤 H 𝓜 𝓖 𝓡)))

@@ -1,7 +1,7 @@
 -- The answer's numbers, of what `write_sheet` ensures.
 use mathlib.Core.Path.{_∙_, ap}
 use borrow.Author.Needs.{needs}
-use Rattle.codec_ffi.specs.Sheet.{reportedSheet}
+use Rattle.sheet_text.specs.Reported.{reportedSheet}
 use Rattle.codec_ffi.proofs.sheet.codec_ffi_sheet.Statement.{statement}
 use Rattle.codec_ffi.proofs.sheet.codec_ffi_sheet.Tie as tie
 

@@ -6,7 +6,8 @@ use Prim.Native.Nat.{ℕ}
 use lib.ListN.{length, take}
 use Rattle.lists.proofs.Cases.{or-neither}
 use Rattle.codec_select.specs.Alignments.{Alignments, alignments}
-use Rattle.codec_select.specs.Steps.{tooFew, capIsZero, capped, withExcess, overlapping, isKept, fromWindow, fromCap}
+use Rattle.codec_sides.specs.Side.{capped, withExcess}
+use Rattle.codec_select.specs.Steps.{tooFew, capIsZero, overlapping, isKept, fromWindow, fromCap}
 use Rattle.codec_select.proofs.Formed.{capped-formed, length-withExcess, fills-count, fills-within, fills-if, sided-within, sided-few}
 use borrow.Author.Needs.{needs}
 use Rattle.codec_select.proofs.steps.from_cap.Statement.{statement}

@@ -7,10 +7,11 @@ use lib.ListN.{length}
 use Rattle.lists.proofs.Written.{take-count}
 use Rattle.codec_select.specs.Alignments.{Alignments, alignments, Formed}
 use Rattle.codec_pairing.specs.Pairing.{sideR1, sideR2}
-use Rattle.codec_select.specs.Steps.{Fills, isInGroup, grouped, withMinority, fromSides}
+use Rattle.codec_sides.specs.Side.{Fills}
+use Rattle.codec_select.specs.Steps.{isInGroup, grouped, withMinority, fromSides}
 use Rattle.codec_pairing.proofs.Entered.{length-sideR2}
 use Rattle.codec_select.proofs.Formed.{sideR1-formed, sideR2-formed, grouped-formed, grouped-below, fills-within, formed-sided}
-use Rattle.codec_select.proofs.Keeping.{length-givenFate}
+use Rattle.codec_sides.proofs.Keeping.{length-givenFate}
 use borrow.Author.Tests.{eq-eqb, ne-eqb, lt-ltb, le-ltb}
 use borrow.Author.Needs.{needs}
 use Rattle.codec_select.proofs.steps.from_sides.Statement.{statement}

@@ -5,7 +5,7 @@ use Prim.Native.Nat.{_-_, _≤_}
 use native.Mathlib.Omega.{arith}
 use borrow.Author.Needs.{needs}
 use lib.ListN.{length}
-use Rattle.family_text.specs.Reading.{linesFrom}
+use Rattle.line_text.specs.Reading.{linesFrom}
 use Rattle.family_windows.proofs.Stops.{stopped-within}
 use Rattle.family_calls.specs.Ledgers.{Goes, here}
 use Rattle.family_calls.proofs.Ledgers.{goes-on, window-goes}

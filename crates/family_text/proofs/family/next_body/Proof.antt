@@ -1,7 +1,7 @@
 -- The records, the words and the two strands, each read where the one before it ends.
 use borrow.Author.Needs.{needs}
+use Rattle.line_text.proofs.Readings.{steps-mapped, steps-applied}
 use Rattle.family_text.specs.Family.{family, familyFrom}
-use Rattle.family_text.proofs.Readings.{steps-mapped, steps-applied}
 use Rattle.family_text.proofs.family.next_body.Statement.{statement}
 use Rattle.family_text.proofs.family.next_body.Tie as tie
 

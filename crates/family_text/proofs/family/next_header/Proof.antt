@@ -2,9 +2,9 @@
 use mathlib.Core.Path.{sym}
 use native.Mathlib.Omega.{arith}
 use borrow.Author.Needs.{needs}
+use Rattle.line_text.proofs.Readings.{line-cut}
 use Rattle.family_text.specs.Family.{headerLine}
 use Rattle.family_text.proofs.Calls.{header-announced, line-header}
-use Rattle.family_text.proofs.Readings.{line-cut}
 use Rattle.family_text.proofs.family.next_header.Statement.{statement}
 use Rattle.family_text.proofs.family.next_header.Tie as tie
 

@@ -23,13 +23,13 @@ returns-2 : tie.Need-returns-2
 returns-2 c = rw (c .before .before .before .before .stop2 .given .1, c .before .before .if1 .left, c .enum-told .given .1)
 
 returns-3 : tie.Need-returns-3
-returns-3 c = rw (c .before .before .before .before .before .before .stop2 .given .1, c .before .before .before .before .if1 .left, c .before .before .ledgers .given .1, eq-eqb _ _ (c .if2 .taken))
+returns-3 c = rw (c .before .before .before .before .before .before .stop2 .given .1, c .before .before .before .before .if1 .left, c .before .before .ledgers .given .1, eq-eqb _ 0 (c .if2 .taken))
 
 returns-4 : tie.Need-returns-4
 returns-4 c = rw (c .before .stop .given .1)
 
 returns-5 : tie.Need-returns-5
-returns-5 c = rw (c .before .before .before .before .before .before .stop2 .given .1, c .before .before .before .before .if1 .left, c .before .before .ledgers .given .1, ne-eqb _ _ (c .if2 .left))
+returns-5 c = rw (c .before .before .before .before .before .before .stop2 .given .1, c .before .before .before .before .if1 .left, c .before .before .ledgers .given .1, ne-eqb _ 0 (c .if2 .left))
 
 pub stop-window-spec : {M : Type 1} → statement M
 stop-window-spec =

@@ -1,0 +1,4 @@
+pub mod Fitting
+pub mod Holding
+pub mod Rows
+pub mod Words

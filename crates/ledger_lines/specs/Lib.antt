@@ -1,0 +1,2 @@
+pub mod Ledgers
+pub mod Settings
