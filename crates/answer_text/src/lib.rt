@@ -1,4 +1,6 @@
 // Answers as text: what selection and the family call answer, written into a byte slice.
+#![tactic(auto)]
+
 pub mod columns;
 pub mod family_answer;
 pub mod line;

@@ -1,5 +1,7 @@
 // The program check-table: reads our input table and a partner's output table, from the two files that its arguments name, and
 // writes the answer of the check. Of several pairs each answer stands behind its files' names.
+#![tactic(auto)]
+
 use libc::STDOUT_FILENO;
 use partner_table::compare::{Answer, check_tables};
 

@@ -1,4 +1,6 @@
 // Outside vectors over CIGARs, one line for each, held to what was worked out from the documents.
+#![tactic(auto)]
+
 mod extended;
 mod group;
 mod show;

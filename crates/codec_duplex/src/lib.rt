@@ -1,4 +1,6 @@
 // The combining step: one position, the tallies and limits of a pair of strands, whole columns.
+#![tactic(auto)]
+
 pub mod bases;
 pub mod columns;
 pub mod combining;

@@ -1,4 +1,6 @@
 // A family call by its parts: what it is given and lent, what it refuses, how it ends, what it counts and answers.
+#![tactic(auto)]
+
 pub mod answer;
 pub mod counted;
 pub mod ending;

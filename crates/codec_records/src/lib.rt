@@ -1,4 +1,6 @@
 // The records of a family: as a host lends them, as the columns that the work is done on, and as marks; and the options.
+#![tactic(auto)]
+
 pub mod columns;
 pub mod marks;
 pub mod options;

@@ -1,4 +1,6 @@
 // A strand's geometry: padding, reverse complement, and the masks on a duplex's qualities.
+#![tactic(auto)]
+
 pub mod mask;
 pub mod strand;
 pub mod turn;

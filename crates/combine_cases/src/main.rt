@@ -1,4 +1,6 @@
 // Document 01's cases of the disagreement limits, one line each.
+#![tactic(auto)]
+
 use codec_duplex::limits::{DuplexAnswer, judge};
 use codec_duplex::tally::DuplexBaseTally;
 

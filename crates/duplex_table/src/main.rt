@@ -1,5 +1,7 @@
 // The program duplex-table: reads an input table from standard input and writes its output table, or only the line
 // of its refusal.
+#![tactic(auto)]
+
 use libc::{STDIN_FILENO, STDOUT_FILENO};
 use table_text::duplex;
 

@@ -1,4 +1,6 @@
 // The families of files as text, and what the family call answers to each: what the programs family-table, handover and sample-sheet share.
+#![tactic(auto)]
+
 mod answers;
 mod calls;
 pub mod files;

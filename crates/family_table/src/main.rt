@@ -1,5 +1,7 @@
 // The program family-table: reads families as text from standard input, or from each file that an argument names, and writes what
 // the family call answers to each, one ledger going through the whole input, and one for each sample that it names.
+#![tactic(auto)]
+
 use family_calls::files;
 use family_calls::form::Form;
 

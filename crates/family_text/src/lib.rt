@@ -1,2 +1,4 @@
 // Family calls as text, read one at a time.
+#![tactic(auto)]
+
 pub mod family;

@@ -1,4 +1,6 @@
 // Stored lists of a dispatcher's calls, one line for each call: its answer, and the dispatcher that it leaves.
+#![tactic(auto)]
+
 mod show;
 mod text;
 

@@ -1,3 +1,5 @@
 // The check of a partner's table: their output table beside our input table.
+#![tactic(auto)]
+
 pub mod compare;
 pub mod report;

@@ -1,4 +1,6 @@
 // The rate in millionths of ledgers at its edges, one line each: both counts, and the rate or refusal 10.
+#![tactic(auto)]
+
 use codec_stats::ledger::Ledger;
 use codec_stats::rates::{LedgerRates, rates};
 use libc::STDOUT_FILENO;

@@ -1,4 +1,6 @@
 // BAM records as the caller reads them: flags and CIGARs.
+#![tactic(auto)]
+
 pub mod cigar;
 pub mod flags;
 pub mod operation;

@@ -1,5 +1,7 @@
 // The program select-table: reads families as text from standard input, or from each file that an argument names, and writes what
 // selection alone answers to each; of an input that is not in the text form only the line of its refusal.
+#![tactic(auto)]
+
 mod answers;
 mod passes;
 

@@ -1,4 +1,6 @@
 // Stored sheets: the bytes lent, the answer, how many of them are as they were, and the text.
+#![tactic(auto)]
+
 ghost use Rattle.std.specs.Prelude.{◌<◌};
 
 use codec_stats::ledger::Ledger;

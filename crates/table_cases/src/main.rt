@@ -1,4 +1,6 @@
 // Runs duplex-table's function on stored tables: on each file that an argument names, and on tables of many positions.
+#![tactic(auto)]
+
 ghost use Rattle.std.specs.Prelude.{◌≤◌, length};
 ghost use Rattle.io.specs.Counts.{IsPrefixLen};
 

@@ -1,4 +1,6 @@
 // Text tables over byte slices: lines, fields and decimals, read and written.
+#![tactic(auto)]
+
 pub mod decimal;
 pub mod duplex;
 pub mod fields;

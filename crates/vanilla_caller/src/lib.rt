@@ -1,4 +1,6 @@
 // The most common alignment of a side.
+#![tactic(auto)]
+
 pub mod group;
 mod order;
 mod side;
