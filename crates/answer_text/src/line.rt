@@ -5,13 +5,13 @@ ghost use Rattle.table_text.specs.OutputTable.{Stored};
 ghost use Rattle.table_text.specs.Text.{space, line_feed};
 ghost use Rattle.answer_text.specs.Line.{fields_text, line_text};
 
-use table_text::decimal;
+use table_text::{copying, decimal};
 
 pub fn write_words(words: &[u8], output: &mut [u8], to: usize) -> usize
     requires { to + length words.now ≤ length output.old }
     ensures { Stored words.now output.old to output.new result }
 {
-    to + bytes::copy(words, &mut output[to..])
+    to + copying::copy_bytes(words, &mut output[to..])
 }
 
 // Writes a number after a space.

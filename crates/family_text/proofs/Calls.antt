@@ -7,7 +7,7 @@ use native.Mathlib.Omega.{arith}
 use lib.Dec.{eqb}
 use lib.ListN.{length, get_or, take, drop, drop_of_length-le}
 use lib.Seq.{drop-cons}
-use Rattle.bytes.specs.Bytes.{index_of}
+use Rattle.table_text.specs.Bytes.{index_of}
 use Rattle.codec_duplex.specs.Columns.{Strand}
 use Rattle.table_text.specs.Parts.{Parts, last, ended, in_front, parts}
 use Rattle.line_text.specs.Line.{line_of}

@@ -3,7 +3,7 @@ use mathlib.Core.List.{List}
 use mathlib.Core.Path.{◌≡◌}
 use Prim.Native.Nat.{ℕ, ◌+◌, ◌-◌, ◌≤◌, ◌<◌}
 use lib.ListN.{length, take, drop, drop_of_length-le}
-use Rattle.bytes.specs.Bytes.{index_of}
+use Rattle.table_text.specs.Bytes.{index_of}
 use Rattle.table_text.proofs.Partings.{part_ended, part_last}
 use Rattle.table_text.specs.Parts.{parts}
 use Rattle.line_text.specs.Reading.{got, wrong, lines_from}

@@ -5,7 +5,7 @@ use Prim.Native.Nat.{ℕ, suc, ◌+◌, ◌-◌, ◌≤◌, ◌<◌}
 use native.Mathlib.Omega.{arith}
 use lib.ListN.{length, set, take, drop, length-append, length-take, length-replicate}
 use lib.Seq.{take_all, take-append-le}
-use Rattle.bytes.specs.Bytes.{index_of}
+use Rattle.table_text.specs.Bytes.{index_of}
 use Rattle.codec_records.specs.Records.{blank}
 use Rattle.codec_records.specs.declared.records.Record.{Record}
 use Rattle.lists.proofs.Written.{written_more, length-written}

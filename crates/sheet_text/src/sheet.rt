@@ -9,6 +9,7 @@ use crate::line::write_sample;
 use crate::refusal::refuse_sheet;
 use caller::refusal::Refusal;
 use sample_ledgers::samples::read_sample;
+use table_text::copying::copy_bytes;
 
 // The length of the text, or a refusal's number.
 #[derive(Drop)]
@@ -38,7 +39,7 @@ fn write_text(samples: &[u64; 1920], output: &mut [u8]) -> usize
     ensures value { result ≡ length (sheet_text samples.now) }
     ensures output_after { output.new ≡ written (sheet_text samples.now) output.old }
 {
-    let to = bytes::copy(
+    let to = copy_bytes(
         b"SAMPLE FAMILIES RECORDS FILTERED CALLED BASES DUPLEX DIFFER PPM\n",
         output,
     );

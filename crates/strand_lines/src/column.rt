@@ -9,7 +9,7 @@ use line_text::bases::Bases;
 use line_text::lines::{Next, Stop};
 use line_text::numbers::Numbers;
 use line_text::{bases, numbers};
-use table_text::parts;
+use table_text::{copying, parts};
 
 // A column has at most 1,100 places.
 pub const PLACES: usize = 1100;
@@ -63,7 +63,7 @@ pub fn next_bases(text: &[u8], at: usize, column: &mut [u8]) -> ColumnRead
             length: 0,
         };
     };
-    let length = bytes::copy(&line[first..past], column);
+    let length = copying::copy_bytes(&line[first..past], column);
     ColumnRead {
         next: Next::Until(end + 1),
         length,

@@ -8,7 +8,7 @@ use borrow.Author.Tests.{le-leb, lt-leb, ltb-true, ltb-false}
 use lib.Dec.{ltb, leb-zero}
 use lib.ListN.{length, take, drop, length-drop}
 use lib.Seq.{take_all}
-use Rattle.bytes.specs.Bytes.{index_of}
+use Rattle.table_text.specs.Bytes.{index_of}
 use Rattle.table_text.specs.Decimal.{number}
 use Rattle.table_text.specs.Fields.{read, listed, fields_of, fields_from, value_of, number_field}
 use Rattle.table_text.specs.declared.decimal.Number.{Number}

@@ -7,7 +7,7 @@ use native.Mathlib.Omega.{arith}
 use lib.Dec.{eqb}
 use lib.ListN.{length, take, drop, length-drop}
 use lib.Seq.{drop-drop}
-use Rattle.bytes.specs.Bytes.{index_of, index_after}
+use Rattle.table_text.specs.Bytes.{index_of, index_after}
 use Rattle.table_text.specs.Parts.{last, ended, in_front, parts}
 
 first_ended : (byte : ℕ) (xs : List ℕ) → index_of byte xs < length xs

@@ -1,3 +1,4 @@
+pub mod Bytes
 pub mod Decimal
 pub mod Duplex
 pub mod Fields

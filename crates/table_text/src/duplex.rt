@@ -5,7 +5,7 @@ ghost use Rattle.table_text.specs.Duplex.{CombinedTable, refusal_text, standard_
 ghost use Rattle.table_text.specs.OutputTable.{Front};
 
 use crate::reading::Checked;
-use crate::{input_table, output_table};
+use crate::{copying, input_table, output_table};
 
 // Room for the longest output: 20 bytes of names, and 20 for each of 2,048 positions.
 pub const OUTPUT_BYTES: usize = 40980;
@@ -32,7 +32,7 @@ fn write_refusal(line: usize, output: &mut [u8]) -> usize
     ensures value { result ≡ length (refusal_text 13 line) }
     ensures output_after { output.new ≡ written (refusal_text 13 line) output.old }
 {
-    let to = bytes::copy(b"refused 13 ", output);
+    let to = copying::copy_bytes(b"refused 13 ", output);
     output_table::write_number(line as u64, b'\n', output, to)
 }
 

@@ -1,6 +1,7 @@
 // Text tables over byte slices: lines, fields and decimals, read and written.
 #![tactic(auto)]
 
+pub mod copying;
 pub mod decimal;
 pub mod duplex;
 pub mod fields;

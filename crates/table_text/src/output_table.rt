@@ -6,7 +6,7 @@ ghost use Rattle.table_text.specs.OutputTable.{number_text, position_text, rows_
 
 use crate::input_table::NextRow;
 use crate::reading::Names;
-use crate::{decimal, input_table};
+use crate::{copying, decimal, input_table};
 use codec_duplex::position;
 use codec_duplex::position::Position;
 
@@ -69,7 +69,7 @@ pub(crate) fn write_table(input: &[u8], output: &mut [u8]) -> usize
     ensures value { result ≡ length (output_table (table_of input.now).rows) }
     ensures output_after { output.new ≡ written (output_table (table_of input.now).rows) output.old }
 {
-    let to = bytes::copy(b"BASE QUAL DEPTH ERR\n", output);
+    let to = copying::copy_bytes(b"BASE QUAL DEPTH ERR\n", output);
     let Names::Until(start) = input_table::after_names(input) else {
         return to;
     };

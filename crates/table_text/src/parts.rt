@@ -1,6 +1,6 @@
 // A text taken apart at a byte: lines at the line feeds, fields at the spaces.
 ghost use Rattle.std.specs.Prelude.{◌≡◌, ◌+◌, ◌≤◌, length, drop};
-ghost use Rattle.bytes.specs.Bytes.{index_of};
+ghost use Rattle.table_text.specs.Bytes.{index_of};
 ghost use Rattle.table_text.specs.Parts.{parts, ended_parts};
 
 // Where the part that begins at `at` ends: at the next such byte, or at the end of the text.
@@ -8,7 +8,14 @@ pub fn part_end(text: &[u8], at: usize, byte: u8) -> usize
     requires { at ≤ length text.now }
     ensures { (result ≡ at + index_of byte (drop at text.now)) × (result ≤ length text.now) }
 {
-    bytes::scan::find(text, at, text.len(), byte)
+    let mut end = at;
+    while end < text.len() {
+        if text[end] == byte {
+            return end;
+        }
+        end += 1;
+    }
+    end
 }
 
 // How many parts are ended by the byte.

@@ -33,7 +33,7 @@ pub(crate) fn after_names(text: &[u8], names: &[u8]) -> Names
     if end == text.len() {
         return Names::Wrong;
     }
-    if check::same(&text[0..end], names) {
+    if &text[0..end] == names {
         Names::Until(end + 1)
     } else {
         Names::Wrong

@@ -9,7 +9,7 @@ use borrow.Author.Tests.{le-leb, lt-leb}
 use lib.Dec.{leb}
 use lib.ListN.{length, take, drop, length-drop}
 use lib.Seq.{length-take-le}
-use Rattle.bytes.specs.Bytes.{index_of}
+use Rattle.table_text.specs.Bytes.{index_of}
 use Rattle.table_text.proofs.FieldLists.{fields_none, fields_next, fields_some}
 use Rattle.table_text.specs.Fields.{fields_from}
 use Rattle.line_text.specs.Bases.{bases_of, bases_line}

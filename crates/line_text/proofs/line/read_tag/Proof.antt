@@ -9,7 +9,7 @@ use borrow.Author.Tests.{eq-eqb, ne_eqb}
 use lib.Dec.{eqb}
 use lib.ListN.{length, get_or, drop}
 use lib.Seq.{length-take-le, drop-cons}
-use Rattle.bytes.specs.Bytes.{index_of}
+use Rattle.table_text.specs.Bytes.{index_of}
 use Rattle.table_text.proofs.FieldLists.{fields_whole, fields_next}
 use Rattle.table_text.specs.Fields.{read, malformed, fields_from, fields_of}
 use Rattle.line_text.specs.Line.{tag_field}

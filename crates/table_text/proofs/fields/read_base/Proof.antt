@@ -7,7 +7,7 @@ use native.Mathlib.Omega.{arith}
 use borrow.Author.Rules.{rules}
 use lib.ListN.{length, get_or, drop, length-drop}
 use lib.Seq.{length-take-le, drop-cons}
-use Rattle.bytes.specs.Bytes.{index_of}
+use Rattle.table_text.specs.Bytes.{index_of}
 use Rattle.table_text.specs.Fields.{read, malformed, is_base, base_field, fields_from}
 use Rattle.table_text.proofs.FieldLists.{fields_none, fields_next}
 use Rattle.table_text.proofs.fields.read_base.Statement.{statement}

@@ -1,7 +1,7 @@
 -- The whole text from the place on is searched.
 use borrow.Author.Rules.{rules}
 use lib.Seq.{take-length}
-use Rattle.bytes.specs.Bytes.{slice}
+use Rattle.table_text.specs.Bytes.{slice}
 use Rattle.table_text.proofs.parts.part_end.Statement.{statement}
 use Rattle.table_text.proofs.parts.part_end.Tie as tie
 
