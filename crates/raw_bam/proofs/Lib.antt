@@ -1,3 +1,4 @@
+pub mod InOrder
 pub mod Joining
 pub mod Positions
 pub mod Prefixes

@@ -3,7 +3,7 @@ ghost use Rattle.std.specs.Prelude.{◌≡◌};
 ghost use Rattle.raw_bam.specs.Cigar.{op_code};
 ghost use Rattle.raw_bam.specs.Operations.{consumes_read, consumes_reference};
 
-#[derive(Drop)]
+#[derive(Clone, Copy)]
 pub struct Consumption {
     pub read: bool,
     pub reference: bool,

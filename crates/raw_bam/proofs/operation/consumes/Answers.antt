@@ -1,4 +1,3 @@
--- One test over the nine rows, computed, and what it says of the row that is read.
 use mathlib.Core.Bool.{Bool, true, false, cond}
 use mathlib.Core.List.{List, [], ◌∷◌, map}
 use mathlib.Core.Path.{◌≡◌, refl}
@@ -12,8 +11,7 @@ use Rattle.lists.proofs.Table.{T_left, T_right, every_place, every_place_at}
 use Rattle.raw_bam.specs.Cigar.{op_code}
 use Rattle.raw_bam.specs.Operations.{Operation, said, operations, consumes_read, consumes_reference}
 use Rattle.raw_bam.specs.declared.operation.Consumption.{Consumption}
-use Rattle.raw_bam.proofs.operation.consumes.Statement.{statement}
-use Rattle.raw_bam.proofs.operation.consumes.Tie as tie
+use Rattle.raw_bam.proofs.operation.consumes.Goals as goal
 
 -- the code's table has the specification's columns
 table : List Consumption
@@ -45,23 +43,10 @@ said-none column code limit i (op ∷ ops) h t =
     let below = ltb→lt op.code limit (T_left (ltb op.code limit) rest t) in
     rw (ne_eqb code op.code (omega arith)) (said-none column code limit (suc i) ops h (T_right (ltb op.code limit) rest t))
 
-cast-code : tie.Need-overflow-cast-code
-cast-code c = search rules
-
-mul-result : tie.Need-overflow-mul-result
-mul-result c = search rules
-
-array-copy-out-result : tie.Need-array-copy-out-result
-array-copy-out-result c = search rules
-
-returns : tie.Need-returns
+pub returns-then-code-lt9 : goal.returns-then-code-lt9
 unfolding table right alike consumes_read consumes_reference
-returns c = right-row (op_code c.before.before.args.word) (get_or table (op_code c.before.before.args.word) (record { read = false; reference = false })) (every_place_at right table (record { read = false; reference = false }) tt (op_code c.before.before.args.word) (search rules))
+returns-then-code-lt9 c = right-row (op_code c.args.word) (get_or table (op_code c.args.word) (record { read = false; reference = false })) (every_place_at right table (record { read = false; reference = false }) tt (op_code c.args.word) (search rules))
 
-returns-2 : tie.Need-returns-2
+pub returns-else-code-lt9 : goal.returns-else-code-lt9
 unfolding consumes_read consumes_reference
-returns-2 c =
-    (said-none (λ op. op.query) (op_code c.before.args.word) 9 0 operations c.if1.false tt, said-none (λ op. op.reference) (op_code c.before.args.word) 9 0 operations c.if1.false tt)
-
-pub consumes-spec : {M : Type 1} → statement M
-consumes-spec = tie.close (tie.spec cast-code mul-result array-copy-out-result returns returns-2)
+returns-else-code-lt9 c = (said-none (λ op. op.query) (op_code c.args.word) 9 0 operations c.if-code-lt9.false tt, said-none (λ op. op.reference) (op_code c.args.word) 9 0 operations c.if-code-lt9.false tt)

@@ -1,0 +1,21 @@
+use mathlib.Core.Bool.{true}
+use mathlib.Core.List.{List, [], ◌∷◌}
+use mathlib.Core.Path.{◌≡◌, refl, sym, ◌∙◌}
+use Prim.Native.Nat.{ℕ, ◌+◌, ◌-◌, ◌≤◌}
+use native.Mathlib.Omega.{arith}
+use borrow.Author.Rules.{rules}
+use borrow.Author.Tests.{eq-eqb, ne_eqb}
+use lib.ListN.{length, drop, get_or}
+use Rattle.raw_bam.specs.Prefix.{is_prefix}
+use Rattle.raw_bam.proofs.Prefixes.{prefix_longer, prefix_step, prefix_last}
+use Rattle.raw_bam.proofs.prefix.is_cigar_prefix.Given as goal
+
+abbrev pub invariant-loop-i : goal.invariant-loop-i
+invariant-loop-i l =
+    (l.i ≤ l.last)
+    × (l.last + 1 ≡ length l.a)
+    × (length l.a ≤ length l.b)
+    × (is_prefix (drop l.i l.a) (drop l.i l.b) ≡ is_prefix l.a l.b)
+
+abbrev pub decreases-loop-i : goal.decreases-loop-i
+decreases-loop-i l = l.last - l.i
