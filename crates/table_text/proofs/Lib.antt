@@ -1,5 +1,6 @@
 pub mod Decimals
 pub mod FieldLists
+pub mod Firsts
 pub mod Partings
 pub mod Stores
 pub mod Storing

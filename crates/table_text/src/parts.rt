@@ -4,6 +4,7 @@ ghost use Rattle.table_text.specs.Bytes.{index_of};
 ghost use Rattle.table_text.specs.Parts.{parts, ended_parts};
 
 // Where the part that begins at `at` ends: at the next such byte, or at the end of the text.
+#[tactic(auto, using(crate::proofs::Firsts::first_here, crate::proofs::Firsts::first_further, crate::proofs::Firsts::first_nowhere))]
 pub fn part_end(text: &[u8], at: usize, byte: u8) -> usize
     requires { at ≤ length text.now }
     ensures { (result ≡ at + index_of byte (drop at text.now)) × (result ≤ length text.now) }
