@@ -4,7 +4,7 @@ ghost use Rattle.lists.specs.Tabulate.{tabulate};
 ghost use Rattle.codec_stats.specs.Ledger.{plus, Addable};
 
 #[repr(C)]
-#[derive(Drop)]
+#[derive(Clone, Copy)]
 pub struct Ledger {
     pub families: u64,
     pub records: u64,

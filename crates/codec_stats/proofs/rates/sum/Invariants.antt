@@ -1,0 +1,15 @@
+use mathlib.Core.Path.{◌≡◌, sym, ◌∙◌, ap}
+use Prim.Native.Nat.{ℕ, ◌+◌, ◌*◌, ◌-◌, ◌^◌, ◌≤◌}
+use native.Mathlib.Omega.{arith}
+use borrow.Author.Rules.{rules}
+use lib.ListN.{length, take, get_or}
+use lib.Seq.{take_all}
+use Rattle.lists.specs.Total.{total}
+use Rattle.lists.proofs.Total.{total_more}
+use Rattle.codec_stats.proofs.rates.sum.Given as goal
+
+abbrev pub invariant-loop-i : goal.invariant-loop-i
+invariant-loop-i l = (l.i ≤ 10) × (l.sum ≡ total (λ n. n) (take l.i l.reasons)) × (l.sum ≤ l.i * 2 ^ 41)
+
+abbrev pub decreases-loop-i : goal.decreases-loop-i
+decreases-loop-i l = 10 - l.i

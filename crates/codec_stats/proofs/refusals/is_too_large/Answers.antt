@@ -1,0 +1,7 @@
+use Rattle.codec_stats.specs.Ledger.{too_large}
+use borrow.Author.Rules.{rules}
+use Rattle.codec_stats.proofs.refusals.is_too_large.Goals as goal
+
+pub returns : goal.returns
+unfolding too_large
+returns c = rw c.counters_within.ensures

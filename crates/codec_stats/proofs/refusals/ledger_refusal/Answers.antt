@@ -1,0 +1,14 @@
+use Rattle.codec_stats.specs.Ledger.{of_counts}
+use borrow.Author.Rules.{rules}
+use Rattle.codec_stats.proofs.refusals.ledger_refusal.Goals as goal
+
+pub returns : goal.returns
+unfolding of_counts
+returns c =
+    rw (
+      c.or_else.ensures,
+      c.refused_if-too_large.ensures,
+      c.refused_if-full.ensures,
+      c.is_too_large.ensures,
+      c.is_full.ensures,
+    )
