@@ -6,31 +6,14 @@ use Prim.Native.Nat.{ℕ, zero, suc, ◌≤◌}
 use native.Mathlib.Omega.{arith}
 use lib.Dec.{ltb}
 use lib.IntN.{pos}
-use lib.ListN.{length, get_or, take, length-map}
+use lib.ListN.{length, get_or, take}
 use lib.Seq.{take-suc, take-length}
-use mir.Val.{Val}
-use denote.Laws.{Is}
 use Rattle.lists.specs.Tabulate.{tabulate}
 use Rattle.lists.proofs.Tabulate.{length-tabulate}
 use Rattle.codec_records.specs.Records.{Full, Holds}
 use Rattle.codec_records.specs.declared.columns.Columns.{Columns}
 use Rattle.codec_records.specs.declared.records.Record.{Record}
 use Rattle.codec_records.proofs.Fitting.{room_all}
-use Rattle.codec_records.specs.contracts.columns.Columns as C
-
--- what is known of columns by value
-pub full_of : (c : Columns) (vs : List Val) → Is C.the_row c vs → Full c
-full_of c vs is =
-    record {
-      flags_full = sym (length-map c.flags (λ x. x)) ∙ is.1.1.0.1.0.1;
-      names_full = sym (length-map c.names (λ x. x)) ∙ is.1.1.1.0.1.0.1;
-      verdicts_full = sym (length-map c.verdicts (λ x. x)) ∙ is.1.1.1.1.0.1.0.1;
-      ranks_full = sym (length-map c.ranks (λ x. x)) ∙ is.1.1.1.1.1.0.1.0.1;
-      clipped_full = sym (length-map c.clipped (λ x. x)) ∙ is.1.1.1.1.1.1.0.1.0.1;
-      positions_full = sym (length-map c.positions (λ x. x)) ∙ is.1.1.1.1.1.1.1.0.1.0.1;
-      starts_full = sym (length-map c.starts (λ x. x)) ∙ is.1.1.1.1.1.1.1.1.0.1.0.1;
-      counts_full = sym (length-map c.counts (λ x. x)) ∙ is.1.1.1.1.1.1.1.1.1.0.1.0.1;
-    }
 
 abbrev record_at : Columns → ℕ → Record
 record_at c i =

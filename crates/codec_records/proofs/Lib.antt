@@ -1,4 +1,3 @@
 pub mod Fitting
 pub mod Holding
-pub mod Rows
 pub mod Words

@@ -7,7 +7,7 @@ use crate::columns::{Columns, blank};
 // Names are numbers, equal for equal names; `verdict` is the pair test's; `clipped` is the read's length, and `position` its start
 // from 1, after clipping; `start` and `count` are its part of the operation words.
 #[repr(C)]
-#[derive(Drop)]
+#[derive(Clone, Copy)]
 pub struct Record {
     pub flags: u16,
     pub name: u32,
