@@ -5,7 +5,7 @@ ghost use Rattle.codec_duplex.specs.Limits.{judgement_of, is_duplex, rate_of, ju
 use crate::tally::DuplexBaseTally;
 
 // What combining alone answers: both tallies, which limit rejected with its figure, or that the columns do not fit.
-#[derive(Drop)]
+#[derive(Clone, Copy)]
 pub enum DuplexAnswer {
     Duplex(DuplexBaseTally),
     DisagreementCount(u32),

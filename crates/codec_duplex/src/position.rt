@@ -6,7 +6,7 @@ ghost use Rattle.codec_duplex.specs.Position.{has_data, agreed_quality, differin
 use caller::phred::{MAX_PHRED, MIN_PHRED, NO_CALL_BASE, NO_CALL_BASE_LOWER};
 use caller::short::{clamp_combined_error_to_fgbio_short, clamp_per_base_to_fgbio_short};
 
-#[derive(Drop)]
+#[derive(Clone, Copy)]
 pub struct Position {
     pub base: u8,
     pub quality: u8,

@@ -4,7 +4,7 @@ ghost use Rattle.codec_duplex.specs.Tally.{tallied};
 
 use crate::position::has_data;
 
-#[derive(Drop)]
+#[derive(Clone, Copy)]
 pub struct DuplexBaseTally {
     pub bases: u32,
     pub disagreements: u32,
