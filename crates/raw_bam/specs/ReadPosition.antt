@@ -1,6 +1,6 @@
 -- Document 01, 'CIGAR operations', Read position of a reference position: from 1, counting I and S bases too; request 07's last base.
 use Rattle.std.specs.Prelude.{Bool, false, cond, ◌&&◌, ◌||◌, List, [], ◌∷◌, ◌++◌, ℕ, ◌+◌, ◌-◌, ltb}
-use Rattle.raw_bam.specs.Cigar.{op_length, op_code, read_bases, read_length, reference_bases}
+use Rattle.raw_bam.specs.Cigar.{op_length, op_code, read_length, reference_bases}
 use Rattle.raw_bam.specs.Operations.{consumes_read, consumes_reference}
 use Rattle.raw_bam.specs.declared.read_pos.ReadPos.{ReadPos}
 use Rattle.raw_bam.specs.declared.read_pos.ReadPos.TheVariants.{Base, NoBase}

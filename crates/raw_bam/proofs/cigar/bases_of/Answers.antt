@@ -1,5 +1,4 @@
 use native.Mathlib.Omega.{arith}
-use borrow.Author.Rules.{rules}
 use Rattle.raw_bam.specs.Cigar.{read_bases, reference_bases}
 use Rattle.raw_bam.proofs.cigar.bases_of.Goals as goal
 

@@ -1,12 +1,8 @@
-use mathlib.Core.Path.{◌≡◌}
-use Prim.Native.Nat.{◌*◌, ◌-◌, ◌≤◌}
 use native.Mathlib.Omega.{arith}
 use borrow.Author.Rules.{rules}
-use lib.ListN.{length, take}
-use lib.Seq.{take_all}
 use Rattle.lists.specs.Total.{total}
 use Rattle.lists.proofs.Total.{total_more}
-use Rattle.raw_bam.specs.Cigar.{read_bases, reference_bases, read_length, reference_length}
+use Rattle.raw_bam.specs.Cigar.{read_bases, reference_bases}
 use Rattle.raw_bam.proofs.cigar.bases_of_cigar.Goals as goal
 
 pub loop-i-init : goal.loop-i-init
@@ -15,8 +11,7 @@ loop-i-init c = search rules
 
 pub loop-i-preserved : goal.loop-i-preserved
 loop-i-preserved c =
-    let ops = c.args.ops.now in
-    (
+    let ops = c.args.ops.now in (
       omega arith,
       omega (arith, total_more read_bases ops c.loop-i.i 0 (omega arith), c.bases_of-bases.ensures.0),
       omega (arith, total_more reference_bases ops c.loop-i.i 0 (omega arith), c.bases_of-bases.ensures.1),

@@ -1,12 +1,7 @@
 use mathlib.Core.Path.{◌≡◌}
 use Prim.Native.Nat.{◌*◌, ◌-◌, ◌≤◌}
-use native.Mathlib.Omega.{arith}
-use borrow.Author.Rules.{rules}
 use lib.ListN.{length, take}
-use lib.Seq.{take_all}
-use Rattle.lists.specs.Total.{total}
-use Rattle.lists.proofs.Total.{total_more}
-use Rattle.raw_bam.specs.Cigar.{read_bases, reference_bases, read_length, reference_length}
+use Rattle.raw_bam.specs.Cigar.{read_length, reference_length}
 use Rattle.raw_bam.proofs.cigar.bases_of_cigar.Given as goal
 
 abbrev pub invariant-loop-i : goal.invariant-loop-i

@@ -1,11 +1,10 @@
 use mathlib.Core.Bool.{true}
 use mathlib.Core.List.{List, [], ◌∷◌}
 use mathlib.Core.Path.{◌≡◌, refl, sym, ◌∙◌}
-use Prim.Native.Nat.{ℕ, ◌+◌, ◌-◌, ◌≤◌}
+use Prim.Native.Nat.{ℕ, ◌-◌}
 use native.Mathlib.Omega.{arith}
-use borrow.Author.Rules.{rules}
 use borrow.Author.Tests.{eq-eqb, ne_eqb}
-use lib.ListN.{length, drop, get_or}
+use lib.ListN.{length, get_or}
 use Rattle.raw_bam.specs.Prefix.{is_prefix}
 use Rattle.raw_bam.proofs.Prefixes.{prefix_longer, prefix_step, prefix_last}
 use Rattle.raw_bam.proofs.prefix.is_cigar_prefix.Goals as goal

@@ -1,13 +1,7 @@
-use mathlib.Core.Bool.{true}
-use mathlib.Core.List.{List, [], ◌∷◌}
-use mathlib.Core.Path.{◌≡◌, refl, sym, ◌∙◌}
-use Prim.Native.Nat.{ℕ, ◌+◌, ◌-◌, ◌≤◌}
-use native.Mathlib.Omega.{arith}
-use borrow.Author.Rules.{rules}
-use borrow.Author.Tests.{eq-eqb, ne_eqb}
-use lib.ListN.{length, drop, get_or}
+use mathlib.Core.Path.{◌≡◌}
+use Prim.Native.Nat.{◌+◌, ◌-◌, ◌≤◌}
+use lib.ListN.{length, drop}
 use Rattle.raw_bam.specs.Prefix.{is_prefix}
-use Rattle.raw_bam.proofs.Prefixes.{prefix_longer, prefix_step, prefix_last}
 use Rattle.raw_bam.proofs.prefix.is_cigar_prefix.Given as goal
 
 abbrev pub invariant-loop-i : goal.invariant-loop-i

@@ -1,10 +1,7 @@
 use mathlib.Core.Path.{◌≡◌, sym, ◌∙◌}
-use Prim.Native.Nat.{◌-◌, ◌≤◌}
 use native.Mathlib.Omega.{arith}
-use borrow.Author.Rules.{rules}
 use borrow.Author.Tests.{lt-ltb, le-ltb}
-use lib.ListN.{length, drop, get_or}
-use Rattle.raw_bam.specs.Prefix.{smaller}
+use lib.ListN.{length, get_or}
 use Rattle.raw_bam.proofs.Prefixes.{smaller-step, smaller-ended, smaller_end}
 use Rattle.raw_bam.proofs.prefix.is_cigar_smaller.Goals as goal
 

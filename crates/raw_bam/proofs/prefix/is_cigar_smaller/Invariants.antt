@@ -1,11 +1,7 @@
-use mathlib.Core.Path.{◌≡◌, sym, ◌∙◌}
+use mathlib.Core.Path.{◌≡◌}
 use Prim.Native.Nat.{◌-◌, ◌≤◌}
-use native.Mathlib.Omega.{arith}
-use borrow.Author.Rules.{rules}
-use borrow.Author.Tests.{lt-ltb, le-ltb}
-use lib.ListN.{length, drop, get_or}
+use lib.ListN.{length, drop}
 use Rattle.raw_bam.specs.Prefix.{smaller}
-use Rattle.raw_bam.proofs.Prefixes.{smaller-step, smaller-ended, smaller_end}
 use Rattle.raw_bam.proofs.prefix.is_cigar_smaller.Given as goal
 
 abbrev pub invariant-loop-i : goal.invariant-loop-i

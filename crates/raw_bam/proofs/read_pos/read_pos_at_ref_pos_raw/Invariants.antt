@@ -1,17 +1,9 @@
 use mathlib.Core.List.{[]}
-use mathlib.Core.Path.{◌≡◌, sym, ◌∙◌}
+use mathlib.Core.Path.{◌≡◌}
 use Prim.Native.Nat.{◌*◌, ◌-◌, ◌≤◌}
-use native.Mathlib.Numerals.{add-one}
-use native.Mathlib.Omega.{arith}
-use borrow.Author.Rules.{rules}
-use borrow.Author.Tests.{lt-ltb, le-ltb}
-use lib.ListN.{length, take, drop, get_or, drop_of_length-le}
-use lib.Seq.{take-suc}
-use Rattle.lists.specs.Total.{total}
-use Rattle.lists.proofs.Total.{total_more}
-use Rattle.raw_bam.specs.Cigar.{read_bases, read_length}
-use Rattle.raw_bam.specs.ReadPosition.{has_aligned, read_position_at, read_position}
-use Rattle.raw_bam.proofs.Positions.{has_aligned_more, position_here, position_on}
+use lib.ListN.{length, take, drop}
+use Rattle.raw_bam.specs.Cigar.{read_length}
+use Rattle.raw_bam.specs.ReadPosition.{has_aligned, read_position_at}
 use Rattle.raw_bam.proofs.read_pos.read_pos_at_ref_pos_raw.Given as goal
 
 abbrev pub invariant-loop-i : goal.invariant-loop-i

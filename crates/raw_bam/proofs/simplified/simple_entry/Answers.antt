@@ -2,7 +2,6 @@ use native.Mathlib.Omega.{arith}
 use Rattle.raw_bam.specs.Simplified.{simple_entry}
 use Rattle.raw_bam.proofs.Joining.{kind_le}
 use Prim.Native.Nat.{◌%◌}
-use borrow.Author.Rules.{rules}
 use Rattle.raw_bam.proofs.simplified.simple_entry.Goals as goal
 
 pub returns : goal.returns

@@ -1,20 +1,16 @@
-use mathlib.Core.Bool.{Bool, true, false, cond}
-use mathlib.Core.List.{List, [], ◌∷◌, ◌++◌, map, map-append, append_assoc, reverse as reversed}
-use mathlib.Core.Logic.{⊎_elim}
+use mathlib.Core.Bool.{cond}
+use mathlib.Core.List.{[], ◌∷◌, ◌++◌, map, map-append, append_assoc}
 use mathlib.Core.Path.{◌≡◌, refl, sym, ◌∙◌, ap}
-use Prim.Native.Nat.{ℕ, ◌+◌, ◌*◌, ◌-◌, ◌≤◌, ◌<◌}
+use Prim.Native.Nat.{ℕ, ◌+◌, ◌<◌}
 use native.Mathlib.Numerals.{add-one}
 use native.Mathlib.Omega.{arith}
-use borrow.Author.Rules.{rules}
 use borrow.Author.Tests.{eq-eqb, ne_eqb}
-use lib.ListN.{length, take, get_or, length-append, length-reverse, length-set}
+use lib.ListN.{length, take, length-append, length-set}
 use lib.Seq.{take-suc, take_all}
-use Rattle.lists.specs.Written.{written}
-use Rattle.lists.proofs.Reverse.{get_d_reverse, map-reverse}
 use Rattle.lists.proofs.Written.{length-written, written_more}
 use lib.Dec.{eqb}
 use Rattle.raw_bam.specs.Cigar.{op_code}
-use Rattle.raw_bam.specs.Simplified.{simple_entry, joined_word, prepend, joined, simplified}
+use Rattle.raw_bam.specs.Simplified.{simple_entry, joined_word, prepend, joined}
 use Rattle.raw_bam.proofs.Joining.{joined_more}
 use Rattle.raw_bam.proofs.InOrder.{in_order, length-in_order, simplified-in_order, simplified-none, entry_read}
 use Rattle.raw_bam.proofs.simplified.simplify_cigar_from_raw.Goals as goal
@@ -61,28 +57,30 @@ loop-i-preserved c =
     let last = c.loop-i.last in
     let entry = c.simple_entry-entry.result in
     let with-next = next (goal.at.loop-i-preserved c).After-simple_entry-entry in
-    elim c.if-last-entry.branch [ then-last-entry w ↦ (
-    let same = eq-eqb (op_code last) (op_code entry) w.if-last-entry.true in
-    let longer : joined_word last entry ≡ c.if-last-entry.last = omega (arith, w.last-is) in (
-      done,
-      omega arith,
-      omega (arith, w.n-is),
-      c.loop-i.invariant.3 ∙ sym w.n-is,
-      w.entries-is ∙ c.loop-i.invariant.4,
-      rw (same, longer) at with-next,
-      omega (arith, w.last-is),
-    ))
-    | else-last-entry w ↦ (
-    let differ = ne_eqb (op_code last) (op_code entry) w.if-last-entry.false in
-    let n = c.loop-i.invariant.3 in (
-      done ++ (last ∷ []),
-      omega arith,
-      omega (arith, w.n-is),
-      length-append done (last ∷ []) ∙ omega (arith, w.n-is),
-      w.entries-is ∙ rw (c.loop-i.invariant.4, ← n) (written_more done args.entries.now last (omega (arith, c.requires))),
-      (rw differ at with-next) ∙ rw w.last-is (sym (append_assoc done (last ∷ []) (entry ∷ []))),
-      omega (arith, w.last-is),
-    )) ]
+    elim c.if-last-entry.branch [
+      | then-last-entry w ↦ (
+          let same = eq-eqb (op_code last) (op_code entry) w.if-last-entry.true in
+          let longer : joined_word last entry ≡ c.if-last-entry.last = omega (arith, w.last-is) in (
+            done,
+            omega arith,
+            omega (arith, w.n-is),
+            c.loop-i.invariant.3 ∙ sym w.n-is,
+            w.entries-is ∙ c.loop-i.invariant.4,
+            rw (same, longer) at with-next,
+            omega (arith, w.last-is),
+          ))
+      | else-last-entry w ↦ (
+          let differ = ne_eqb (op_code last) (op_code entry) w.if-last-entry.false in
+          let n = c.loop-i.invariant.3 in (
+            done ++ (last ∷ []),
+            omega arith,
+            omega (arith, w.n-is),
+            length-append done (last ∷ []) ∙ omega (arith, w.n-is),
+            w.entries-is ∙ rw (c.loop-i.invariant.4, ← n) (written_more done args.entries.now last (omega (arith, c.requires))),
+            (rw differ at with-next) ∙ rw w.last-is (sym (append_assoc done (last ∷ []) (entry ∷ []))),
+            omega (arith, w.last-is),
+          ))
+    ]
 
 pub offset_bounds-entries-n-2 : goal.offset_bounds-entries-n-2
 offset_bounds-entries-n-2 c = omega (arith, c.requires)
