@@ -1,10 +1,8 @@
 use mathlib.Core.Path.{◌≡◌, ◌∙◌, ap, ap₂}
-use Prim.Native.Nat.{◌≤◌, ◌-◌}
 use native.Mathlib.Omega.{arith}
 use borrow.Author.Rules.{rules}
 use lib.ListN.{length, length-set}
 use Rattle.lists.specs.Tabulate.{tabulate}
-use Rattle.lists.specs.Written.{written}
 use Rattle.lists.proofs.Tabulate.{tabulate_put}
 use Rattle.codec_duplex.specs.Bases.{bases_alone}
 use Rattle.codec_duplex.specs.Columns.{field_at, combined_column}

@@ -1,14 +1,10 @@
-use mathlib.Core.Path.{◌≡◌, ◌∙◌, ap, ap₂}
+use mathlib.Core.Path.{◌≡◌}
 use Prim.Native.Nat.{◌≤◌, ◌-◌}
-use native.Mathlib.Omega.{arith}
-use borrow.Author.Rules.{rules}
-use lib.ListN.{length, length-set}
+use lib.ListN.{length}
 use Rattle.lists.specs.Tabulate.{tabulate}
 use Rattle.lists.specs.Written.{written}
-use Rattle.lists.proofs.Tabulate.{tabulate_put}
 use Rattle.codec_duplex.specs.Bases.{bases_alone}
-use Rattle.codec_duplex.specs.Columns.{field_at, combined_column}
-use Rattle.codec_duplex.specs.Position.{combined}
+use Rattle.codec_duplex.specs.Columns.{field_at}
 use Rattle.codec_duplex.specs.declared.position.Position.{Position}
 use Rattle.codec_duplex.proofs.bases.combine_bases.Given as goal
 

@@ -1,10 +1,7 @@
 use mathlib.Core.Path.{◌≡◌, refl, ◌∙◌, ap, ap₂}
-use Prim.Native.Nat.{◌≤◌, ◌-◌}
 use native.Mathlib.Omega.{arith}
-use borrow.Author.Rules.{rules}
 use lib.ListN.{length, length-set}
 use Rattle.lists.specs.Tabulate.{tabulate}
-use Rattle.lists.specs.Written.{written}
 use Rattle.lists.proofs.Tabulate.{tabulate_put}
 use Rattle.codec_duplex.specs.Columns.{strand, field_at, combined_column}
 use Rattle.codec_duplex.specs.Position.{combined}

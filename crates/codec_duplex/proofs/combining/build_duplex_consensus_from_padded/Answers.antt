@@ -3,15 +3,14 @@ use mathlib.Core.List.{◌++◌}
 use mathlib.Core.Path.{◌≡◌, refl, sym, ◌∙◌}
 use Prim.Native.Nat.{ℕ}
 use lib.Ieee.{Float}
-use Rattle.codec_duplex.specs.Columns.{Strand, strand, lengths, columns_fit, Filled}
+use Rattle.codec_duplex.specs.Columns.{Strand, lengths, columns_fit, Filled}
 use Rattle.codec_duplex.specs.Combining.{Combining, outcome}
-use Rattle.codec_duplex.specs.Duplex.{Duplex, duplex, duplex_lengths}
+use Rattle.codec_duplex.specs.Duplex.{Duplex, duplex_lengths}
 use Rattle.codec_duplex.specs.Limits.{judgement_of, is_duplex, judged}
 use Rattle.codec_duplex.specs.Tally.{tallied}
 use Rattle.codec_duplex.specs.declared.tally.DuplexBaseTally.{DuplexBaseTally}
 use Rattle.codec_duplex.specs.declared.limits.DuplexAnswer.{DuplexAnswer}
-use Rattle.codec_duplex.proofs.Laws.{at_most_2048, fitting}
-use borrow.Author.Rules.{rules}
+use Rattle.codec_duplex.proofs.Laws.{fitting}
 use Rattle.codec_duplex.proofs.combining.build_duplex_consensus_from_padded.Goals as goal
 
 module _ (a b : Strand) (before : Duplex) (count : ℕ) (rate : Float) (r : DuplexAnswer) (same : judgement_of r ≡ outcome a b (duplex_lengths before) count rate) where

@@ -1,6 +1,5 @@
 use borrow.Author.Tests.{eq-eqb, ne_eqb, lt-ltb, le-ltb}
 use Rattle.codec_duplex.specs.Limits.{judged}
-use borrow.Author.Rules.{rules}
 use Rattle.codec_duplex.proofs.limits.judge.Goals as goal
 
 pub returns-then-tally-eq0 : goal.returns-then-tally-eq0

@@ -1,4 +1,3 @@
-use borrow.Author.Rules.{rules}
 use Rattle.codec_duplex.specs.Position.{combined}
 use Rattle.codec_duplex.proofs.position.combine.Goals as goal
 

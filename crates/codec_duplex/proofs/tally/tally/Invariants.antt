@@ -1,11 +1,8 @@
 use mathlib.Core.Path.{◌≡◌}
-use Prim.Native.Nat.{◌+◌, ◌≤◌, ◌-◌}
-use native.Mathlib.Omega.{arith}
-use borrow.Author.Rules.{rules}
+use Prim.Native.Nat.{◌≤◌, ◌-◌}
 use lib.ListN.{length}
 use Rattle.lists.specs.Count.{count_below}
-use Rattle.lists.proofs.Count.{count_more, count-le}
-use Rattle.codec_duplex.specs.Tally.{both_call, disagree, tallied}
+use Rattle.codec_duplex.specs.Tally.{both_call, disagree}
 use Rattle.codec_duplex.proofs.tally.tally.Given as goal
 
 abbrev pub invariant-loop-i : goal.invariant-loop-i
