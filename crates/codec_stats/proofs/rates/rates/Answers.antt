@@ -1,6 +1,4 @@
-use mathlib.Core.Path.{sym, ◌∙◌}
 use Rattle.codec_stats.specs.Ledger.{rates_of}
-use borrow.Author.Rules.{rules}
 use Rattle.codec_stats.proofs.rates.rates.Goals as goal
 
 pub returns-then-is_too_large : goal.returns-then-is_too_large

@@ -1,11 +1,7 @@
-use mathlib.Core.Path.{◌≡◌, sym, ◌∙◌, ap}
-use Prim.Native.Nat.{ℕ, ◌+◌, ◌*◌, ◌-◌, ◌^◌, ◌≤◌}
-use native.Mathlib.Omega.{arith}
-use borrow.Author.Rules.{rules}
-use lib.ListN.{length, take, get_or}
-use lib.Seq.{take_all}
+use mathlib.Core.Path.{◌≡◌}
+use Prim.Native.Nat.{◌*◌, ◌-◌, ◌^◌, ◌≤◌}
+use lib.ListN.{take}
 use Rattle.lists.specs.Total.{total}
-use Rattle.lists.proofs.Total.{total_more}
 use Rattle.codec_stats.proofs.rates.sum.Given as goal
 
 abbrev pub invariant-loop-i : goal.invariant-loop-i

@@ -1,5 +1,4 @@
 use Rattle.codec_stats.specs.Ledger.{too_large}
-use borrow.Author.Rules.{rules}
 use Rattle.codec_stats.proofs.refusals.is_too_large.Goals as goal
 
 pub returns : goal.returns

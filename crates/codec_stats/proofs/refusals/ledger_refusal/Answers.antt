@@ -1,5 +1,4 @@
 use Rattle.codec_stats.specs.Ledger.{of_counts}
-use borrow.Author.Rules.{rules}
 use Rattle.codec_stats.proofs.refusals.ledger_refusal.Goals as goal
 
 pub returns : goal.returns
