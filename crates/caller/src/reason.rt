@@ -2,7 +2,7 @@
 ghost use Rattle.std.specs.Prelude.{◌≡◌};
 ghost use Rattle.caller.specs.Reasons.{number_of, ReadBack};
 
-#[derive(Drop)]
+#[derive(Clone, Copy)]
 pub enum RejectionReason {
     FragmentRead,
     NotPrimaryFrPair,

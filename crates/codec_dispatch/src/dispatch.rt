@@ -6,7 +6,7 @@ use caller::refusal::{Refusal, or_else, refused_if};
 
 // How many families of each lane wait, and the lane served last.
 #[repr(C)]
-#[derive(Drop)]
+#[derive(Clone, Copy)]
 pub struct Dispatcher {
     pub waiting: [u16; 8],
     pub last: u32,

@@ -8,7 +8,7 @@ use codec_stats::ledger::Ledger;
 // kind 0: called, with the duplex's length; 1: empty; 2: no strand; 3: the ending reason's number; 4: a refusal's number and what
 // goes with it.
 #[repr(C)]
-#[derive(Drop)]
+#[derive(Clone, Copy)]
 pub struct FamilyEnding {
     pub kind: u32,
     pub number: u32,

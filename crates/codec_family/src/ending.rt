@@ -15,14 +15,14 @@ use codec_records::options::Options;
 use codec_select::selection::Decision;
 
 // Which limit rejected a duplex, as HighDuplexDisagreement.
-#[derive(Drop)]
+#[derive(Clone, Copy)]
 pub enum Limit {
     Count,
     Rate,
 }
 
 // Called has the duplex's length; Refused the refusal's number and what goes with it.
-#[derive(Drop)]
+#[derive(Clone, Copy)]
 pub enum Ending {
     Called(u64),
     Empty,

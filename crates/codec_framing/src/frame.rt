@@ -1,7 +1,7 @@
 // What a duplex asks of its two strands.
 
 // The duplex's length, and which sides' longest records have flag 16.
-#[derive(Drop)]
+#[derive(Clone, Copy)]
 pub struct Frame {
     pub length: usize,
     pub r1_is_negative: bool,

@@ -16,7 +16,7 @@ pub struct Read {
 }
 
 // What a record can be refused for.
-#[derive(Drop)]
+#[derive(Clone, Copy)]
 pub enum Cause {
     Part,
     Words,

@@ -1,7 +1,7 @@
 // The options of a family call. What may be missing has a flag beside it, so that they can cross the Rust boundary.
 
 #[repr(C)]
-#[derive(Drop)]
+#[derive(Clone, Copy)]
 pub struct Options {
     pub min_reads_per_strand: u64,
     pub has_max_reads_per_strand: bool,

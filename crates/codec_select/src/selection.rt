@@ -2,7 +2,7 @@
 use caller::reason::RejectionReason;
 
 // How selection ends.
-#[derive(Drop)]
+#[derive(Clone, Copy)]
 pub enum Decision {
     Kept {
         start: u64,

@@ -6,7 +6,7 @@ ghost use Rattle.codec_strands.specs.Masks.{outermost, outer_mask, single_strand
 use codec_duplex::position::has_data;
 
 // A quality that may be missing has a flag beside it.
-#[derive(Drop)]
+#[derive(Clone, Copy)]
 pub struct Masks {
     pub outer_length: u64,
     pub has_outer_quality: bool,

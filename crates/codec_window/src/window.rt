@@ -7,14 +7,14 @@ use raw_bam::cigar::reference_length_from_cigar;
 use raw_bam::read_pos::{ReadPos, read_pos_at_ref_pos_raw};
 
 // The longest record of a side, beside its operations.
-#[derive(Drop)]
+#[derive(Clone, Copy)]
 pub struct Aligned {
     pub position: u64,
     pub clipped_length: u64,
 }
 
 // What a side covers of the reference, or the window: both ends belong to it.
-#[derive(Drop)]
+#[derive(Clone, Copy)]
 pub struct Span {
     pub start: u64,
     pub end: u64,

@@ -13,7 +13,7 @@ use table_text::fields;
 use table_text::fields::NumberField;
 
 // What a family is handed: the run's ledger, the samples', the number of its sample, and whether a line has named one.
-#[derive(Drop)]
+#[derive(Clone, Copy)]
 pub struct Handed {
     pub ledger: Ledger,
     pub samples: [u64; 1920],

@@ -6,7 +6,7 @@ ghost use Rattle.line_text.specs.Value.{below, after_dash, field_value, value_fi
 use table_text::decimal::Number;
 use table_text::{decimal, parts};
 
-#[derive(Drop)]
+#[derive(Clone, Copy)]
 pub struct Value {
     pub present: bool,
     pub negative: bool,

@@ -10,7 +10,7 @@ use line_text::line;
 use line_text::value::Value;
 
 // How many lines and words follow, the options, which strands are there, and the lengths of the lent columns.
-#[derive(Drop)]
+#[derive(Clone, Copy)]
 pub struct Header {
     pub records: usize,
     pub words: usize,
