@@ -1,3 +1,4 @@
+-- What the table says of the word picks its length or 0.
 use native.Mathlib.Omega.{arith}
 use Rattle.raw_bam.specs.Cigar.{read_bases, reference_bases}
 use Rattle.raw_bam.proofs.cigar.bases_of.Goals as goal

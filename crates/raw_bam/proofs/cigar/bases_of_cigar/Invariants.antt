@@ -1,3 +1,4 @@
+-- The sums over the operations passed; a word's length is below 2^28, which bounds them.
 use mathlib.Core.Path.{◌≡◌}
 use Prim.Native.Nat.{◌*◌, ◌-◌, ◌≤◌}
 use lib.ListN.{length, take}

@@ -1,3 +1,4 @@
+-- One test over the nine rows, computed, and what it says of the row that is read.
 use mathlib.Core.Bool.{Bool, true, false, cond}
 use mathlib.Core.List.{List, [], ◌∷◌, map}
 use mathlib.Core.Path.{◌≡◌, refl}

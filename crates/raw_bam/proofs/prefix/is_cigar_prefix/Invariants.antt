@@ -1,3 +1,4 @@
+-- What is left of both lists stands to each other as the whole lists do.
 use mathlib.Core.Path.{◌≡◌}
 use Prim.Native.Nat.{◌+◌, ◌-◌, ◌≤◌}
 use lib.ListN.{length, drop}

@@ -1,3 +1,4 @@
+-- The walk over the operations: what is left of the definition at the place reached is what was asked at the start.
 use mathlib.Core.List.{[]}
 use mathlib.Core.Path.{◌≡◌}
 use Prim.Native.Nat.{◌*◌, ◌-◌, ◌≤◌}

@@ -1,3 +1,4 @@
+-- The arms are tested as ranges: 4 and 5, 7 and 8, and what lies outside them.
 use mathlib.Core.Logic.{⊎_elim}
 use mathlib.Core.Path.{◌≡◌, refl, ap, ◌∙◌}
 use Prim.Native.Nat.{ℕ, ◌+◌, ◌≤◌, ◌<◌}

@@ -1,3 +1,4 @@
+-- The kind is at most the code, so the entry is at most the word.
 use native.Mathlib.Omega.{arith}
 use Rattle.raw_bam.specs.Simplified.{simple_entry}
 use Rattle.raw_bam.proofs.Joining.{kind_le}

@@ -1,0 +1,17 @@
+-- The first i places hold the answer.
+use mathlib.Core.Path.{◌≡◌, ◌∙◌, ap}
+use Prim.Native.Nat.{◌-◌, ◌≤◌}
+use native.Mathlib.Omega.{arith}
+use borrow.Author.Rules.{rules}
+use lib.ListN.{length}
+use Rattle.lists.specs.Tabulate.{tabulate}
+use Rattle.lists.specs.Written.{written}
+use Rattle.lists.proofs.Tabulate.{length-tabulate, tabulate_more}
+use Rattle.lists.proofs.Written.{length-written}
+use Rattle.vanilla_caller.proofs.group.answer_all.Given as goal
+
+abbrev pub invariant-loop-i : goal.invariant-loop-i
+invariant-loop-i l = (l.i ≤ l.n) × (l.stays ≡ written (tabulate (λ _. l.answer) l.i) l.initial.stays)
+
+abbrev pub decreases-loop-i : goal.decreases-loop-i
+decreases-loop-i l = l.n - l.i
