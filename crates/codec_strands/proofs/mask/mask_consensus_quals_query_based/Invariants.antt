@@ -1,0 +1,17 @@
+use mathlib.Core.Path.{◌≡◌, sym, ◌∙◌, ap}
+use Prim.Native.Nat.{◌-◌, ◌≤◌}
+use native.Mathlib.Omega.{arith}
+use borrow.Author.Rules.{rules}
+use lib.ListN.{length, get_or, take, length-set}
+use lib.Seq.{get_or-take, length-take-le}
+use Rattle.lists.specs.Tabulate.{tabulate}
+use Rattle.lists.specs.Written.{written}
+use Rattle.lists.proofs.Tabulate.{tabulate_put, tabulate-next}
+use Rattle.codec_strands.specs.Masks.{outer_mask, single_strand_mask, masked_at, masked}
+use Rattle.codec_strands.proofs.mask.mask_consensus_quals_query_based.Given as goal
+
+abbrev pub invariant-loop-i : goal.invariant-loop-i
+invariant-loop-i l = (l.i ≤ l.n) × (length l.quals ≡ length l.initial.quals) × (l.quals ≡ written (tabulate (masked_at l.masks l.a l.b (take l.n l.initial.quals) l.n) l.i) l.initial.quals)
+
+abbrev pub decreases-loop-i : goal.decreases-loop-i
+decreases-loop-i l = l.n - l.i

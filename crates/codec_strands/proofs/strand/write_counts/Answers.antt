@@ -1,0 +1,17 @@
+use mathlib.Core.Path.{sym}
+use native.Mathlib.Omega.{arith}
+use borrow.Author.Rules.{rules}
+use lib.ListN.{length}
+use lib.Seq.{length-take-le}
+use Rattle.codec_strands.specs.Strands.{turned}
+use Rattle.codec_strands.proofs.Orientation.{length-turned, begins, has_room, padded_put}
+use Rattle.codec_strands.proofs.strand.write_counts.Goals as goal
+
+pub returns : goal.returns
+returns c =
+    let filled = c.fill_shorts in
+    let args = c.args in
+    let before = c.padding_before-before in
+    let column = turned args.reversed args.counts.now in
+    let size = length-turned args.reversed args.counts.now in
+    padded_put 0 args.n before.result args.out.now filled.new.out (search rules) filled.ensures args.left column c.turn_shorts.new.out (omega (arith, size)) (rw size before.ensures.value) c.turn_shorts.ensures
