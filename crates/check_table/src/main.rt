@@ -2,97 +2,108 @@
 // writes the answer of the check. Of several pairs each answer stands behind its files' names.
 #![tactic(auto)]
 
-use libc::STDOUT_FILENO;
 use partner_table::compare::{Answer, check_tables};
+use std::io::Read;
+use std::rt::{Env, Files};
+use std::{env, fs, io};
 
 // The longest well-formed input table has 73,752 bytes, the longest output table 36,884. One byte more decides the answer, however
 // the file goes on: where no line before the cut is malformed, either line 2,050 has begun, or the line that is cut is already
 // too long to be well formed.
 const TABLE_BYTES: usize = 73753;
 
-fn write_number(n: u64, after: &[u8]) {
-    io::print_decimal(STDOUT_FILENO, n);
-    io::write_all(STDOUT_FILENO, after);
+fn write_number(rt: &impl Print, n: u64, after: &str) -> io::Result<()> {
+    print!(rt; "{n}{after}")
 }
 
 // Refusal 28 has no table.
-fn write_refusal(number: u32, line: usize, table: u32) {
-    io::write_all(STDOUT_FILENO, b"refused ");
-    write_number(number as u64, b" ");
+fn write_refusal(rt: &impl Print, number: u32, line: usize, table: u32) -> io::Result<()> {
+    rt.print("refused ")?;
+    write_number(rt, number as u64, " ")?;
     if table == 0 {
-        write_number(line as u64, b"\n");
+        write_number(rt, line as u64, "\n")
     } else {
-        write_number(line as u64, b" ");
-        write_number(table as u64, b"\n");
+        write_number(rt, line as u64, " ")?;
+        write_number(rt, table as u64, "\n")
     }
 }
 
-fn write_answer(answer: Answer) {
+fn write_answer(rt: &impl Print, answer: Answer) -> io::Result<()> {
     match answer {
-        Answer::Accepted => {
-            io::write_all(STDOUT_FILENO, b"accepted\n");
-        }
+        Answer::Accepted => rt.println("accepted"),
         Answer::Wrong { line, field } => {
-            io::write_all(STDOUT_FILENO, b"wrong ");
-            write_number(line as u64, b" ");
-            write_number(field as u64, b"\n");
+            rt.print("wrong ")?;
+            write_number(rt, line as u64, " ")?;
+            write_number(rt, field as u64, "\n")
         }
         Answer::Refused {
             number,
             line,
             table,
-        } => write_refusal(number, line, table),
+        } => write_refusal(rt, number, line, table),
     }
 }
 
-// A read that fails ends a table.
-fn answer_pair(ours: i32, theirs: i32) {
-    let mut our_table = [0u8; TABLE_BYTES];
-    let our_size = io::read_full(ours, &mut our_table);
-    let mut their_table = [0u8; TABLE_BYTES];
-    let their_size = io::read_full(theirs, &mut their_table);
-    write_answer(check_tables(&our_table[..our_size], &their_table[..their_size]));
+fn answer_pair<R: Alloc + Print, F: Read + Drop>(rt: &R, ours: F, theirs: F) -> io::Result<()> {
+    let mut our_table = Vec::new(rt.alloc());
+    let our_size = ours.take(TABLE_BYTES as u64).read_to_end(&mut our_table)?;
+    let mut their_table = Vec::new(rt.alloc());
+    let their_size = theirs
+        .take(TABLE_BYTES as u64)
+        .read_to_end(&mut their_table)?;
+    write_answer(
+        rt,
+        check_tables(&our_table[..our_size], &their_table[..their_size]),
+    )
 }
 
-fn open_table(i: usize, titled: bool, after: &[u8]) -> i32 {
-    let mut name = io::buffer();
-    let length = os::arg(i, &mut name);
+// Of a file that cannot be opened, a line on standard error says why.
+fn open_table<R: Files + Print + Eprint>(
+    rt: &R,
+    name: &str,
+    titled: bool,
+    after: &str,
+) -> io::Result<Option<R::File>> {
     if titled {
-        io::write_all(STDOUT_FILENO, &name[..length]);
-        io::write_all(STDOUT_FILENO, after);
+        print!(rt; "{name}{after}")?;
     }
-    let file = os::open_read(&name[..length]);
-    if file < 0 {
-        os::fail(&name[..length]);
-    }
-    file
-}
-
-fn run_pair(first: usize, second: usize, titled: bool) {
-    let ours = open_table(first, titled, b" ");
-    if ours < 0 {
-        return;
-    }
-    let theirs = open_table(second, titled, b": ");
-    if 0 <= theirs {
-        answer_pair(ours, theirs);
-        libc::close(theirs);
-    }
-    libc::close(ours);
-}
-
-fn run_pairs(count: usize) {
-    let mut i: usize = 1;
-    while i < count {
-        let second = i + 1;
-        if second == count {
-            return;
+    match fs::open(rt, name) {
+        Ok(file) => Ok(Some(file)),
+        Err(error) => {
+            eprintln!(rt; "{name}: {error}")?;
+            Ok(None)
         }
-        run_pair(i, second, 3 < count);
-        i = second + 1;
     }
 }
 
-fn main() {
-    run_pairs(os::arg_count());
+fn run_pair<R: Files + Alloc + Print + Eprint>(
+    rt: &R,
+    first: &str,
+    second: &str,
+    titled: bool,
+) -> io::Result<()> {
+    let Some(ours) = open_table(rt, first, titled, " ")? else {
+        return Ok(());
+    };
+    let Some(theirs) = open_table(rt, second, titled, ": ")? else {
+        return Ok(());
+    };
+    answer_pair(rt, ours, theirs)
+}
+
+// A name without a second behind it is passed over.
+fn run_pairs<R: Files + Env + Alloc + Print + Eprint>(rt: &R) -> io::Result<()> {
+    let mut names = env::args(rt)?.skip(1);
+    let titled = 2 < names.len();
+    while let Some(first) = names.next() {
+        let Some(second) = names.next() else {
+            return Ok(());
+        };
+        run_pair(rt, first.as_str(), second.as_str(), titled)?;
+    }
+    Ok(())
+}
+
+fn main(rt: HostRuntime) -> io::Result<()> {
+    run_pairs(&rt)
 }

@@ -3,6 +3,7 @@ ghost use Rattle.std.specs.Prelude.{◌+◌, ◌≤◌, length};
 
 use crate::show::{put, put_answer};
 use crate::text::words_of;
+use std::io;
 use vanilla_caller::group::select_most_common_alignment_group;
 
 // The number of operations, the clipped length and the orientation of a record.
@@ -13,15 +14,15 @@ pub struct Read {
     pub reverse: bool,
 }
 
-fn put_stays(stays: &[bool; 3]) {
-    put_answer(b"", stays[0]);
-    put_answer(b"", stays[1]);
-    put_answer(b"", stays[2]);
-    put(b"\n");
+fn put_stays(rt: &impl Print, stays: &[bool; 3]) -> io::Result<()> {
+    put_answer(rt, b"", stays[0])?;
+    put_answer(rt, b"", stays[1])?;
+    put_answer(rt, b"", stays[2])?;
+    put(rt, b"\n")
 }
 
 // Which of three records stay; their operations are written one after the other.
-pub fn show_group(cigars: &[u8], a: Read, b: Read, c: Read)
+pub fn show_group(rt: &impl Print, cigars: &[u8], a: Read, b: Read, c: Read) -> io::Result<()>
     requires { a.count + b.count + c.count ≤ 64 }
 {
     let mut words = [0u32; 64];
@@ -32,7 +33,7 @@ pub fn show_group(cigars: &[u8], a: Read, b: Read, c: Read)
     let reverse = [a.reverse, b.reverse, c.reverse];
     let mut stays = [false; 3];
     select_most_common_alignment_group(&words, &clipped, &starts, &counts, &reverse, &mut stays);
-    put(b"group ");
-    put(cigars);
-    put_stays(&stays);
+    put(rt, b"group ")?;
+    put(rt, cigars)?;
+    put_stays(rt, &stays)
 }

@@ -1,6 +1,5 @@
 // CIGARs as SAM writes them, as 8M2I4M, or * for none.
 ghost use Rattle.std.specs.Prelude.{◌≤◌, ◌<◌, ◌^◌, length};
-ghost use Rattle.io.specs.Counts.{IsPrefixLen};
 
 fn code_of(letter: u8) -> u32
     ensures { result < 16 }
@@ -50,7 +49,7 @@ fn word_of(length: u32, letter: u8) -> u32
 
 // Writes the words of a CIGAR, as many as there is room for, and answers their number.
 pub fn words_of(cigar: &[u8], words: &mut [u32]) -> usize
-    ensures prefix_len { IsPrefixLen result words.new }
+    ensures prefix_len { result ≤ length words.new }
     ensures upper_bound { result ≤ length words.old }
 {
     let mut length: u32 = 0;

@@ -2,7 +2,8 @@
 // of its refusal.
 #![tactic(auto)]
 
-use libc::{STDIN_FILENO, STDOUT_FILENO};
+use std::io;
+use std::io::Read;
 use table_text::duplex;
 
 // The longest well-formed table has 24 bytes of names and 2,048 lines of 36, `A 255 65535 65535 C 255 65535 65535` and a
@@ -10,11 +11,13 @@ use table_text::duplex;
 // malformed, either line 2,050 has begun, or the line that is cut is already too long to be well formed.
 const INPUT_BYTES: usize = 73753;
 
-// A read that fails ends the input.
-fn main() {
-    let mut input = [0u8; INPUT_BYTES];
-    let got = io::read_full(STDIN_FILENO, &mut input);
+fn main(rt: HostRuntime) -> io::Result<()> {
+    let mut input = Vec::new(rt.alloc());
+    let got = rt
+        .reader()
+        .take(INPUT_BYTES as u64)
+        .read_to_end(&mut input)?;
     let mut output = [0u8; duplex::OUTPUT_BYTES];
     let size = duplex::duplex_table(&input[..got], &mut output);
-    io::write_all(STDOUT_FILENO, &output[..size]);
+    rt.write_all(&output[..size])
 }

@@ -4,42 +4,67 @@
 mod show;
 mod text;
 
+ghost use Rattle.std.specs.Prelude.{◌≤◌, length};
+
 use codec_dispatch::dispatch::{Dispatcher, add, fresh, turn};
-use libc::STDIN_FILENO;
 use show::{put, show_dispatcher, show_outcome};
+use std::io;
+use std::io::Read;
 use text::{first_of, number_in};
 
+// Room for the lists that are stored.
+const TEXT_BYTES: usize = 4096;
+
 // LAST and EACH make a dispatcher that a host may hand in: the lane served last, or each of the counts.
-fn run_line(line: &[u8], dispatcher: Dispatcher) -> Dispatcher {
+fn run_line(rt: &impl Print, line: &[u8], dispatcher: Dispatcher) -> io::Result<Dispatcher> {
     let n = number_in(line);
     let waiting = dispatcher.waiting;
     match first_of(line) {
-        b'A' => show_outcome(add(dispatcher, n)),
-        b'T' => show_outcome(turn(dispatcher)),
-        b'F' => show_dispatcher(fresh()),
-        b'L' => show_dispatcher(Dispatcher { waiting, last: n }),
-        b'E' => show_dispatcher(Dispatcher {
-            waiting: [(n % 65536) as u16; 8],
-            last: dispatcher.last,
-        }),
-        _ => dispatcher,
+        b'A' => show_outcome(rt, add(dispatcher, n)),
+        b'T' => show_outcome(rt, turn(dispatcher)),
+        b'F' => show_dispatcher(rt, fresh()),
+        b'L' => show_dispatcher(rt, Dispatcher { waiting, last: n }),
+        b'E' => show_dispatcher(
+            rt,
+            Dispatcher {
+                waiting: [(n % 65536) as u16; 8],
+                last: dispatcher.last,
+            },
+        ),
+        _ => Ok(dispatcher),
     }
 }
 
-fn run(text: &[u8]) {
+// Where the line that begins at `at` ends: at the next line feed, or at the end of the text.
+fn line_end(text: &[u8], at: usize) -> usize
+    requires { at ≤ length text.now }
+    ensures { (at ≤ result) × (result ≤ length text.now) }
+{
+    let mut end = at;
+    while end < text.len() {
+        if text[end] == b'\n' {
+            return end;
+        }
+        end += 1;
+    }
+    end
+}
+
+fn run(rt: &impl Print, text: &[u8]) -> io::Result<()> {
     let mut dispatcher = fresh();
     let mut at = 0;
     while at < text.len() {
-        let end = bytes::scan::find(text, at, text.len(), b'\n');
-        put(&text[at..end]);
-        dispatcher = run_line(&text[at..end], dispatcher);
-        put(b"\n");
+        let end = line_end(text, at);
+        put(rt, &text[at..end])?;
+        dispatcher = run_line(rt, &text[at..end], dispatcher)?;
+        put(rt, b"\n")?;
         at = end + 1;
     }
+    Ok(())
 }
 
-fn main() {
-    let mut text = io::buffer();
-    let size = io::read_full(STDIN_FILENO, &mut text);
-    run(&text[..size]);
+fn main(rt: HostRuntime) -> io::Result<()> {
+    let mut text = Vec::new(rt.alloc());
+    let size = rt.reader().take(TEXT_BYTES as u64).read_to_end(&mut text)?;
+    run(&rt, &text[..size])
 }

@@ -3,16 +3,16 @@
 
 use codec_stats::ledger::Ledger;
 use codec_stats::rates::{LedgerRates, rates};
-use libc::STDOUT_FILENO;
+use std::io;
 
 const COUNTER_LIMIT: u64 = 1 << 41;
 
-fn put(text: &[u8]) {
-    io::write_all(STDOUT_FILENO, text);
+fn put(rt: &impl Print, text: &str) -> io::Result<()> {
+    rt.print(text)
 }
 
-fn put_number(n: u64) {
-    io::print_decimal(STDOUT_FILENO, n);
+fn put_number(rt: &impl Print, n: u64) -> io::Result<()> {
+    rt.print(n)
 }
 
 // A ledger with two counts alone.
@@ -32,41 +32,41 @@ fn ledger_of(disagreements: u64, duplex_bases: u64) -> Ledger {
     }
 }
 
-fn show(disagreements: u64, duplex_bases: u64) {
-    put_number(disagreements);
-    put(b" of ");
-    put_number(duplex_bases);
+fn show(rt: &impl Print, disagreements: u64, duplex_bases: u64) -> io::Result<()> {
+    put_number(rt, disagreements)?;
+    put(rt, " of ")?;
+    put_number(rt, duplex_bases)?;
     match rates(ledger_of(disagreements, duplex_bases)) {
         LedgerRates::Rates {
             filtered: _,
             rate: _,
             millionths,
         } => {
-            put(b": ");
-            put_number(millionths);
+            put(rt, ": ")?;
+            put_number(rt, millionths)?;
         }
         LedgerRates::Refused(number, _) => {
-            put(b": refused ");
-            put_number(number as u64);
+            put(rt, ": refused ")?;
+            put_number(rt, number as u64)?;
         }
     }
-    put(b"\n");
+    put(rt, "\n")
 }
 
-fn main() {
-    show(0, 0);
-    show(COUNTER_LIMIT, 0);
-    show(0, 5);
-    show(1, 3);
-    show(2, 3);
-    show(1, 1000000);
-    show(1, 1000001);
-    show(COUNTER_LIMIT - 1, COUNTER_LIMIT);
-    show(COUNTER_LIMIT, COUNTER_LIMIT);
-    show(COUNTER_LIMIT, COUNTER_LIMIT - 1);
-    show(COUNTER_LIMIT, 7);
-    show(COUNTER_LIMIT, 3);
-    show(COUNTER_LIMIT, 1);
-    show(COUNTER_LIMIT + 1, 1);
-    show(1, COUNTER_LIMIT + 1);
+fn main(rt: HostRuntime) -> io::Result<()> {
+    show(&rt, 0, 0)?;
+    show(&rt, COUNTER_LIMIT, 0)?;
+    show(&rt, 0, 5)?;
+    show(&rt, 1, 3)?;
+    show(&rt, 2, 3)?;
+    show(&rt, 1, 1000000)?;
+    show(&rt, 1, 1000001)?;
+    show(&rt, COUNTER_LIMIT - 1, COUNTER_LIMIT)?;
+    show(&rt, COUNTER_LIMIT, COUNTER_LIMIT)?;
+    show(&rt, COUNTER_LIMIT, COUNTER_LIMIT - 1)?;
+    show(&rt, COUNTER_LIMIT, 7)?;
+    show(&rt, COUNTER_LIMIT, 3)?;
+    show(&rt, COUNTER_LIMIT, 1)?;
+    show(&rt, COUNTER_LIMIT + 1, 1)?;
+    show(&rt, 1, COUNTER_LIMIT + 1)
 }
