@@ -6,7 +6,7 @@ use std::process::Command;
 use std::time::SystemTime;
 use std::{env, fs};
 
-const MAKE: &str = "rt staticlib codec_ffi";
+const MAKE: &str = "tools/make-archive";
 
 fn main() {
     let here = PathBuf::from(env::var_os("CARGO_MANIFEST_DIR").expect("set by cargo"));
@@ -36,6 +36,7 @@ fn changed(file: &Path) -> Option<SystemTime> {
 fn newest(folder: &Path) -> Option<SystemTime> {
     let entries = fs::read_dir(folder).into_iter().flatten().flatten().map(|entry| entry.path());
     let times = entries.filter_map(|path| match path.is_dir() {
+        true if path.ends_with("out") => None,
         true => newest(&path),
         false => path.extension().filter(|e| *e == "rt").and_then(|_| changed(&path)),
     });
@@ -43,8 +44,7 @@ fn newest(folder: &Path) -> Option<SystemTime> {
 }
 
 fn make(root: &Path) {
-    let words: Vec<&str> = MAKE.split(' ').collect();
-    let made = Command::new(words[0]).args(&words[1..]).current_dir(root).output();
+    let made = Command::new(root.join(MAKE)).current_dir(root).output();
     if !made.is_ok_and(|output| output.status.success()) {
         println!("cargo::error=no static library: run `{MAKE}` at the root of the repository");
     }
