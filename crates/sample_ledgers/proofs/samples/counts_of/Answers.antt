@@ -1,7 +1,6 @@
 use mathlib.Core.Path.{refl}
 use Rattle.lists.specs.Tabulate.{tabulate}
 use Rattle.sample_ledgers.specs.Samples.{counts_of}
-use borrow.Author.Rules.{rules}
 use Rattle.sample_ledgers.proofs.samples.counts_of.Goals as goal
 
 pub returns : goal.returns

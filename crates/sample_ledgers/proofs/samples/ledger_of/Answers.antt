@@ -1,7 +1,6 @@
 use mathlib.Core.Path.{refl}
 use Rattle.lists.specs.Tabulate.{tabulate}
 use Rattle.sample_ledgers.specs.Samples.{ledger_by}
-use borrow.Author.Rules.{rules}
 use Rattle.sample_ledgers.proofs.samples.ledger_of.Goals as goal
 
 pub returns : goal.returns
