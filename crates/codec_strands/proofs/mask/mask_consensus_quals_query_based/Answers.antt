@@ -1,11 +1,9 @@
 use mathlib.Core.Path.{◌≡◌, sym, ◌∙◌, ap}
-use Prim.Native.Nat.{◌-◌, ◌≤◌}
 use native.Mathlib.Omega.{arith}
 use borrow.Author.Rules.{rules}
-use lib.ListN.{length, get_or, take, length-set}
+use lib.ListN.{get_or, take, length-set}
 use lib.Seq.{get_or-take, length-take-le}
 use Rattle.lists.specs.Tabulate.{tabulate}
-use Rattle.lists.specs.Written.{written}
 use Rattle.lists.proofs.Tabulate.{tabulate_put, tabulate-next}
 use Rattle.codec_strands.specs.Masks.{outer_mask, single_strand_mask, masked_at, masked}
 use Rattle.codec_strands.proofs.mask.mask_consensus_quals_query_based.Goals as goal

@@ -1,13 +1,9 @@
-use mathlib.Core.Path.{◌≡◌, sym, ◌∙◌, ap}
+use mathlib.Core.Path.{◌≡◌}
 use Prim.Native.Nat.{◌-◌, ◌≤◌}
-use native.Mathlib.Omega.{arith}
-use borrow.Author.Rules.{rules}
-use lib.ListN.{length, get_or, take, length-set}
-use lib.Seq.{get_or-take, length-take-le}
+use lib.ListN.{length, take}
 use Rattle.lists.specs.Tabulate.{tabulate}
 use Rattle.lists.specs.Written.{written}
-use Rattle.lists.proofs.Tabulate.{tabulate_put, tabulate-next}
-use Rattle.codec_strands.specs.Masks.{outer_mask, single_strand_mask, masked_at, masked}
+use Rattle.codec_strands.specs.Masks.{masked_at}
 use Rattle.codec_strands.proofs.mask.mask_consensus_quals_query_based.Given as goal
 
 abbrev pub invariant-loop-i : goal.invariant-loop-i

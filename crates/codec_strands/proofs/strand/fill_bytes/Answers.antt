@@ -1,11 +1,9 @@
 use mathlib.Core.Path.{sym, ◌∙◌}
-use Prim.Native.Nat.{◌-◌}
 use native.Mathlib.Omega.{arith}
-use borrow.Author.Rules.{rules}
 use lib.ListN.{length, replicate, length-replicate}
 use Rattle.lists.proofs.Places.{get_d_repeated}
 use Rattle.lists.proofs.Written.{written-whole}
-use Rattle.codec_strands.proofs.Orientation.{Writing, writing_none, writing_more, writing_all}
+use Rattle.codec_strands.proofs.Orientation.{writing_none, writing_more, writing_all}
 use Rattle.codec_strands.proofs.strand.fill_bytes.Goals as goal
 
 pub loop-i-init : goal.loop-i-init

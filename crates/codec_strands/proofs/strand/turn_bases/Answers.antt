@@ -1,11 +1,10 @@
 use mathlib.Core.Bool.{cond}
 use mathlib.Core.Path.{sym, ◌∙◌, ap}
-use Prim.Native.Nat.{◌-◌, ◌≤◌}
 use native.Mathlib.Omega.{arith}
 use borrow.Author.Rules.{rules}
-use lib.ListN.{length, get_or}
+use lib.ListN.{get_or}
 use Rattle.codec_strands.specs.Strands.{complement, turned_bases}
-use Rattle.codec_strands.proofs.Orientation.{bases_at, length-turned_bases, Writing, writing_none, writing_more, writing_all}
+use Rattle.codec_strands.proofs.Orientation.{bases_at, length-turned_bases, writing_none, writing_more, writing_all}
 use Rattle.codec_strands.proofs.strand.turn_bases.Goals as goal
 
 pub loop-i-init : goal.loop-i-init

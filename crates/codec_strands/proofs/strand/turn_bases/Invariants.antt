@@ -1,11 +1,7 @@
-use mathlib.Core.Bool.{cond}
-use mathlib.Core.Path.{sym, ◌∙◌, ap}
 use Prim.Native.Nat.{◌-◌, ◌≤◌}
-use native.Mathlib.Omega.{arith}
-use borrow.Author.Rules.{rules}
-use lib.ListN.{length, get_or}
-use Rattle.codec_strands.specs.Strands.{complement, turned_bases}
-use Rattle.codec_strands.proofs.Orientation.{bases_at, length-turned_bases, Writing, writing_none, writing_more, writing_all}
+use lib.ListN.{length}
+use Rattle.codec_strands.specs.Strands.{turned_bases}
+use Rattle.codec_strands.proofs.Orientation.{Writing}
 use Rattle.codec_strands.proofs.strand.turn_bases.Given as goal
 
 abbrev pub invariant-loop-i : goal.invariant-loop-i

@@ -1,10 +1,9 @@
 use mathlib.Core.Path.{sym, ◌∙◌, ap}
-use Prim.Native.Nat.{◌-◌, ◌≤◌}
 use native.Mathlib.Omega.{arith}
 use borrow.Author.Rules.{rules}
-use lib.ListN.{length, get_or}
+use lib.ListN.{get_or}
 use Rattle.codec_strands.specs.Strands.{turned}
-use Rattle.codec_strands.proofs.Orientation.{turned_at, length-turned, Writing, writing_none, writing_more, writing_all}
+use Rattle.codec_strands.proofs.Orientation.{turned_at, length-turned, writing_none, writing_more, writing_all}
 use Rattle.codec_strands.proofs.strand.turn_bytes.Goals as goal
 
 pub loop-i-init : goal.loop-i-init

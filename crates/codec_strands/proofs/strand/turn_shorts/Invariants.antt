@@ -1,10 +1,7 @@
-use mathlib.Core.Path.{sym, ◌∙◌, ap}
 use Prim.Native.Nat.{◌-◌, ◌≤◌}
-use native.Mathlib.Omega.{arith}
-use borrow.Author.Rules.{rules}
-use lib.ListN.{length, get_or}
+use lib.ListN.{length}
 use Rattle.codec_strands.specs.Strands.{turned}
-use Rattle.codec_strands.proofs.Orientation.{turned_at, length-turned, Writing, writing_none, writing_more, writing_all}
+use Rattle.codec_strands.proofs.Orientation.{Writing}
 use Rattle.codec_strands.proofs.strand.turn_shorts.Given as goal
 
 abbrev pub invariant-loop-i : goal.invariant-loop-i

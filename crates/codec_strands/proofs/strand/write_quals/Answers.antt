@@ -1,10 +1,7 @@
-use mathlib.Core.Path.{sym}
 use native.Mathlib.Omega.{arith}
 use borrow.Author.Rules.{rules}
-use lib.ListN.{length}
-use lib.Seq.{length-take-le}
 use Rattle.codec_strands.specs.Strands.{turned}
-use Rattle.codec_strands.proofs.Orientation.{length-turned, begins, has_room, padded_put}
+use Rattle.codec_strands.proofs.Orientation.{length-turned, padded_put}
 use Rattle.codec_strands.proofs.strand.write_quals.Goals as goal
 
 pub returns : goal.returns

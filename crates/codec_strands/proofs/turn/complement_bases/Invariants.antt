@@ -1,13 +1,9 @@
 use mathlib.Core.List.{map}
-use mathlib.Core.Path.{◌≡◌, sym, ◌∙◌, ap}
-use Prim.Native.Nat.{ℕ, ◌-◌, ◌≤◌}
-use native.Mathlib.Omega.{arith}
-use borrow.Author.Rules.{rules}
-use lib.ListN.{length, get_or, take, length-set, length-map, get_or-map}
-use lib.Seq.{get_or-take, length-take-le}
+use mathlib.Core.Path.{◌≡◌}
+use Prim.Native.Nat.{◌-◌, ◌≤◌}
+use lib.ListN.{length, get_or, take}
 use Rattle.lists.specs.Tabulate.{tabulate}
 use Rattle.lists.specs.Written.{written}
-use Rattle.lists.proofs.Tabulate.{tabulate_put, tabulate-next, tabulate-all}
 use Rattle.codec_strands.specs.Strands.{complement}
 use Rattle.codec_strands.proofs.turn.complement_bases.Given as goal
 

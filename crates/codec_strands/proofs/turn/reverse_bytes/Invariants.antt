@@ -1,9 +1,6 @@
 use mathlib.Core.Path.{◌≡◌}
 use Prim.Native.Nat.{◌+◌, ◌-◌}
-use native.Mathlib.Omega.{arith}
-use borrow.Author.Rules.{rules}
-use lib.ListN.{length-set}
-use Rattle.lists.proofs.Turning.{Turning, turning_none, turning_more, turning_all}
+use Rattle.lists.proofs.Turning.{Turning}
 use Rattle.codec_strands.proofs.turn.reverse_bytes.Given as goal
 
 abbrev pub invariant-loop-i : goal.invariant-loop-i

@@ -1,4 +1,3 @@
-use borrow.Author.Rules.{rules}
 use Rattle.codec_strands.proofs.StrandLaws.{same_columns, reversed_then_complemented}
 use Rattle.codec_strands.proofs.turn.reverse_complement_ss.Goals as goal
 
