@@ -55,7 +55,7 @@ there_accepts words read reference room a =
       le-ltb 64 (length words) a.few,
       le-ltb 1024 (read_length words) a.short,
       eq-eqb (length read) (read_length words) a.bases,
-      eq-eqb (length reference) (reference_length words) a.reference-bases,
+      eq-eqb (length reference) (reference_length words) a.reference_bases_lem,
       le-ltb room 2048 a.output,
     )
 

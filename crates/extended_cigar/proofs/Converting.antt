@@ -15,12 +15,12 @@ pub gives-words : (refusal : Refusal) {words old new : List ℕ} {count : ℕ} {
     → count ≡ length words
     → new ≡ written words old
     → Converted refusal words old new told
-gives-words refusal e t n o = record { answer = rw e (t ∙ rw n); output = rw e o }
+gives-words r e t n o = record { answer = rw e (t ∙ rw n); output = rw e o }
 
 pub is_refused : (refusal : Refusal) {words old : List ℕ} {number given : ℕ} {told : CigarAnswer} → refusal ≡ Refused number given
     → told ≡ record { kind = 1; number = number; with = given; count = 0 }
     → Converted refusal words old old told
-is_refused refusal e t = record { answer = rw e t; output = rw e refl }
+is_refused r e t = record { answer = rw e t; output = rw e refl }
 
 -- a call that answers kind 0 is not refused
 pub unrefused : (refusal : Refusal) {words old new : List ℕ} {told : CigarAnswer} → Converted refusal words old new told → told.kind ≡ 0 → refusal ≡ NoRefusal
@@ -30,4 +30,4 @@ unrefused (Refused number given) made e = let z : ◌≡◌ {A = ℕ} 0 1 = sym 
 -- and what it then answers and leaves
 pub words-given : (refusal : Refusal) {words old new : List ℕ} {told : CigarAnswer} → refusal ≡ NoRefusal → Converted refusal words old new told
     → (told ≡ record { kind = 0; number = 0; with = 0; count = length words }) × (new ≡ written words old)
-words-given refusal e made = (rw e at made.answer, rw e at made.output)
+words-given r e made = (rw e at made.answer, rw e at made.output)

@@ -98,7 +98,7 @@ within words read reference room k a h =
       long = ltb-true 0 (op_length word) (and_both (leb (op_code word) 8) (ltb 0 (op_length word)) part).1;
       short = omega (arith, a.short, total_more read_bases words k 0 h, total_part read_bases words (k + 1));
       bases = omega (arith, a.bases, total_more read_bases words k 0 h, total_part read_bases words (k + 1));
-      reference_bases_lem = omega (arith, a.reference-bases, total_more reference_bases words k 0 h, total_part reference_bases words (k + 1));
+      reference_bases_lem = omega (arith, a.reference_bases_lem, total_more reference_bases words k 0 h, total_part reference_bases words (k + 1));
     }
 
 -- an operation put after a list: joined with the last one where both are M

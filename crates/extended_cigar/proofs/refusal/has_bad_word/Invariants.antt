@@ -1,0 +1,18 @@
+-- All words passed are allowed, so the words left decide.
+use mathlib.Core.Bool.{not}
+use mathlib.Core.Path.{◌≡◌, refl, sym, ◌∙◌, ap}
+use Prim.Native.Nat.{◌-◌, ◌≤◌}
+use native.Mathlib.Omega.{arith}
+use borrow.Author.Rules.{rules}
+use borrow.Author.Tests.{not-true, not-false}
+use lib.ListN.{length, drop}
+use Rattle.lists.proofs.Every.{every_fails, every-next, every-passed}
+use Rattle.lists.specs.Every.{every}
+use Rattle.extended_cigar.specs.Refusals.{allowed}
+use Rattle.extended_cigar.proofs.refusal.has_bad_word.Given as goal
+
+abbrev pub invariant-loop-i : goal.invariant-loop-i
+invariant-loop-i l = (l.i ≤ length l.words) × (every (allowed l.plain) l.words ≡ every (allowed l.plain) (drop l.i l.words))
+
+abbrev pub decreases-loop-i : goal.decreases-loop-i
+decreases-loop-i l = length l.words - l.i
