@@ -1,0 +1,12 @@
+use mathlib.Core.Path.{◌≡◌, refl, sym, ◌∙◌, ap}
+use Prim.Native.Nat.{◌-◌, ◌≤◌}
+use native.Mathlib.Omega.{arith}
+use borrow.Author.Rules.{rules}
+use lib.ListN.{length}
+use Rattle.table_text.specs.InputTable.{Reading, input_line, table_from, NextRead}
+use Rattle.table_text.specs.declared.input_table.NextRow.TheVariants.{Row}
+use Rattle.table_text.proofs.Tables.{table_end}
+use Rattle.table_text.proofs.input_table.check_rows.Goals as goal
+
+pub returns : goal.returns
+returns c = sym (c.loop-at.invariant.1 ∙ ap (λ (r : Reading). r.ending) (table_end input_line _ _ _ c.loop-at-test.false))

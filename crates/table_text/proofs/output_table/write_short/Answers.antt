@@ -1,0 +1,16 @@
+use Prim.Native.Nat.{ℕ, ◌^◌, ◌≤◌, ◌<◌}
+use native.Mathlib.Omega.{arith}
+use borrow.Author.Rules.{rules}
+use lib.ListN.{length}
+use Rattle.table_text.specs.OutputTable.{number_text}
+use Rattle.table_text.proofs.Stores.{length-number_text}
+use Rattle.table_text.proofs.output_table.write_short.Goals as goal
+
+six : (n after : ℕ) → n < 2 ^ 16 → length (number_text n after) ≤ 6
+six n after h = length-number_text 4 n after (omega arith)
+
+pub write_number-requires : goal.write_number-requires
+write_number-requires c = omega (arith, six c.args.n c.args.after c.ranges.n.fits)
+
+pub returns-clause-upper_bound : goal.returns-clause-upper_bound
+returns-clause-upper_bound c = omega (arith, c.write_number.ensures.0, six c.args.n c.args.after c.ranges.n.fits)
