@@ -1,12 +1,7 @@
-use mathlib.Core.Path.{◌≡◌, ◌∙◌, ap}
-use Prim.Native.Nat.{◌-◌, ◌≤◌}
 use native.Mathlib.Omega.{arith}
 use borrow.Author.Rules.{rules}
-use lib.ListN.{length}
 use Rattle.lists.specs.Tabulate.{tabulate}
-use Rattle.lists.specs.Written.{written}
-use Rattle.lists.proofs.Tabulate.{length-tabulate, tabulate_more}
-use Rattle.lists.proofs.Written.{length-written}
+use Rattle.lists.proofs.Tabulate.{tabulate_more}
 use Rattle.vanilla_caller.proofs.group.answer_all.Goals as goal
 
 pub loop-i-init : goal.loop-i-init

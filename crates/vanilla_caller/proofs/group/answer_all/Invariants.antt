@@ -1,13 +1,8 @@
 -- The first i places hold the answer.
-use mathlib.Core.Path.{◌≡◌, ◌∙◌, ap}
+use mathlib.Core.Path.{◌≡◌}
 use Prim.Native.Nat.{◌-◌, ◌≤◌}
-use native.Mathlib.Omega.{arith}
-use borrow.Author.Rules.{rules}
-use lib.ListN.{length}
 use Rattle.lists.specs.Tabulate.{tabulate}
 use Rattle.lists.specs.Written.{written}
-use Rattle.lists.proofs.Tabulate.{length-tabulate, tabulate_more}
-use Rattle.lists.proofs.Written.{length-written}
 use Rattle.vanilla_caller.proofs.group.answer_all.Given as goal
 
 abbrev pub invariant-loop-i : goal.invariant-loop-i

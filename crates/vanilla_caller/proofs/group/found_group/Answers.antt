@@ -1,16 +1,14 @@
 use mathlib.Core.Bool.{Bool}
 use mathlib.Core.List.{[]}
-use mathlib.Core.Logic.{⊎_elim}
-use mathlib.Core.Path.{◌≡◌, refl, sym, ◌∙◌, ap}
-use Prim.Native.Nat.{ℕ, ◌+◌, ◌-◌, ◌≤◌}
+use mathlib.Core.Path.{◌≡◌, sym, ◌∙◌, ap}
+use Prim.Native.Nat.{ℕ}
 use native.Mathlib.Omega.{arith}
-use borrow.Author.Rules.{rules}
 use lib.ListN.{length, drop, get_or, length-set, drop_of_length-le}
 use Rattle.raw_bam.specs.Prefix.{is_prefix}
 use Rattle.vanilla_caller.specs.Founding.{matches}
 use Rattle.vanilla_caller.specs.Side.{list_of}
 use Rattle.vanilla_caller.proofs.Groups.{matches_step}
-use Rattle.vanilla_caller.proofs.Marks.{Marked, mark_none, mark_yes, mark_no}
+use Rattle.vanilla_caller.proofs.Marks.{mark_yes, mark_no}
 use Rattle.vanilla_caller.proofs.group.found_group.Goals as goal
 use Rattle.vanilla_caller.proofs.group.found_group.Goals.{then-is_prefix_of, else-is_prefix_of}
 use Rattle.vanilla_caller.proofs.group.found_group.Goals.{After-is_prefix_of}
@@ -36,27 +34,28 @@ loop-j-preserved c =
     let answer = compared (goal.at.loop-j-preserved c).After-is_prefix_of in
     let marked = c.loop-j.invariant.5 in
     let test : (ℕ → Bool) = λ i. is_prefix (lists (get_or order i 0)) own in
-    elim c.if-is_prefix_of.branch [ then-is_prefix_of w ↦ (
-    let fits = sym answer ∙ w.if-is_prefix_of.true in
-    let found = ap length (rw fits at step) in (
-      omega arith,
-      omega arith,
-      ap length w.grouped-is ∙ simp length-set c.loop-j.invariant.2,
-      omega (arith, w.size-is),
-      omega (arith, w.size-is, found, c.loop-j.invariant.4),
-      rw w.grouped-is (mark_yes test args.grouped.now args.k j c.loop-j.grouped (omega (arith, c.requires.k_in_bounds.1)) fits marked),
-    ))
-    | else-is_prefix_of w ↦ (
-    let fails = sym answer ∙ w.if-is_prefix_of.false in
-    let none = ap length (rw fails at step) in (
-      omega arith,
-      omega arith,
-      ap length w.grouped-is ∙ c.loop-j.invariant.2,
-      omega (arith, w.size-is),
-      omega (arith, w.size-is, none, c.loop-j.invariant.4),
-      rw w.grouped-is (mark_no test args.grouped.now args.k j c.loop-j.grouped fails marked),
-    ))
- ]
+    elim c.if-is_prefix_of.branch [
+      | then-is_prefix_of w ↦ (
+          let fits = sym answer ∙ w.if-is_prefix_of.true in
+          let found = ap length (rw fits at step) in (
+            omega arith,
+            omega arith,
+            ap length w.grouped-is ∙ simp length-set c.loop-j.invariant.2,
+            omega (arith, w.size-is),
+            omega (arith, w.size-is, found, c.loop-j.invariant.4),
+            rw w.grouped-is (mark_yes test args.grouped.now args.k j c.loop-j.grouped (omega (arith, c.requires.k_in_bounds.1)) fits marked),
+          ))
+      | else-is_prefix_of w ↦ (
+          let fails = sym answer ∙ w.if-is_prefix_of.false in
+          let none = ap length (rw fails at step) in (
+            omega arith,
+            omega arith,
+            ap length w.grouped-is ∙ c.loop-j.invariant.2,
+            omega (arith, w.size-is),
+            omega (arith, w.size-is, none, c.loop-j.invariant.4),
+            rw w.grouped-is (mark_no test args.grouped.now args.k j c.loop-j.grouped fails marked),
+          ))
+    ]
 
 pub returns-clause-value : goal.returns-clause-value
 unfolding matches

@@ -1,17 +1,11 @@
 -- The records from place k to j are marked, and those counted and those still to come are all that match.
-use mathlib.Core.Bool.{Bool}
-use mathlib.Core.List.{[]}
-use mathlib.Core.Logic.{⊎_elim}
-use mathlib.Core.Path.{◌≡◌, refl, sym, ◌∙◌, ap}
-use Prim.Native.Nat.{ℕ, ◌+◌, ◌-◌, ◌≤◌}
-use native.Mathlib.Omega.{arith}
-use borrow.Author.Rules.{rules}
-use lib.ListN.{length, drop, get_or, length-set, drop_of_length-le}
+use mathlib.Core.Path.{◌≡◌}
+use Prim.Native.Nat.{◌+◌, ◌-◌, ◌≤◌}
+use lib.ListN.{length, drop, get_or}
 use Rattle.raw_bam.specs.Prefix.{is_prefix}
 use Rattle.vanilla_caller.specs.Founding.{matches}
 use Rattle.vanilla_caller.specs.Side.{list_of}
-use Rattle.vanilla_caller.proofs.Groups.{matches_step}
-use Rattle.vanilla_caller.proofs.Marks.{Marked, mark_none, mark_yes, mark_no}
+use Rattle.vanilla_caller.proofs.Marks.{Marked}
 use Rattle.vanilla_caller.proofs.group.found_group.Given as goal
 
 abbrev pub invariant-loop-j : goal.invariant-loop-j

@@ -1,15 +1,13 @@
 use mathlib.Core.Bool.{Bool, true, false}
 use mathlib.Core.List.{List, [], ◌∷◌, ◌++◌, append_assoc, append-nil}
-use mathlib.Core.Logic.{⊎_elim}
 use mathlib.Core.Path.{◌≡◌, refl, sym, ◌∙◌, ap}
-use Prim.Native.Nat.{ℕ, ◌+◌, ◌-◌, ◌≤◌}
+use Prim.Native.Nat.{ℕ, ◌+◌}
 use native.Mathlib.Omega.{arith}
-use borrow.Author.Rules.{rules}
 use lib.ListN.{length, drop, get_or, drop_of_length-le}
 use Rattle.lists.specs.Tabulate.{tabulate}
 use Rattle.lists.specs.Written.{written}
 use Rattle.lists.proofs.Tabulate.{length-tabulate, set-tabulate}
-use Rattle.lists.proofs.Written.{length-written, set-written, written_again}
+use Rattle.lists.proofs.Written.{set-written, written_again}
 use Rattle.raw_bam.specs.Prefix.{is_prefix}
 use Rattle.vanilla_caller.specs.Founding.{matches, group_at}
 use Rattle.lists.specs.Member.{is_in}
@@ -39,19 +37,20 @@ loop-j-preserved c =
     let step = matches_step lists own order j (omega arith) in
     let answer : c.is_prefix_of.result ≡ is_prefix (lists i) own = c.is_prefix_of.ensures ∙ ap (is_prefix (lists i)) c.simplified_list-count.ensures.0 in
     let in-range = c.requires.ordered j (omega arith) in
-    elim c.if-is_prefix_of.branch [ then-is_prefix_of w ↦ (
-    let found = rw (sym answer ∙ w.if-is_prefix_of.true) at step in
-    let flags = tabulate (λ k. is_in k done) (length order) in
-    let marked = set-tabulate (λ k. is_in k done) (λ k. is_in k (done ++ (i ∷ []))) (length order) i true in-range (is_in_here i done) (λ k differ. is_in_other k i done differ) in (
-      done ++ (i ∷ []),
-      omega arith,
-      w.stays-is ∙ rw c.loop-j.invariant.2 (set-written flags c.answer_all.new.stays i true (omega (arith, length-tabulate (λ k. is_in k done) (length order), in-range)) ∙ ap (λ (l : List Bool). written l c.answer_all.new.stays) marked),
-      append_assoc done (i ∷ []) (matches lists own (drop (j + 1) order)) ∙ ap (λ (l : List ℕ). done ++ l) (sym found) ∙ c.loop-j.invariant.3,
-    ))
-    | else-is_prefix_of w ↦ (
-    let none = rw (sym answer ∙ w.if-is_prefix_of.false) at step in
-    (done, omega arith, w.stays-is ∙ c.loop-j.invariant.2, ap (λ (l : List ℕ). done ++ l) (sym none) ∙ c.loop-j.invariant.3))
- ]
+    elim c.if-is_prefix_of.branch [
+      | then-is_prefix_of w ↦ (
+          let found = rw (sym answer ∙ w.if-is_prefix_of.true) at step in
+          let flags = tabulate (λ k. is_in k done) (length order) in
+          let marked = set-tabulate (λ k. is_in k done) (λ k. is_in k (done ++ (i ∷ []))) (length order) i true in-range (is_in_here i done) (λ k differ. is_in_other k i done differ) in (
+            done ++ (i ∷ []),
+            omega arith,
+            w.stays-is ∙ rw c.loop-j.invariant.2 (set-written flags c.answer_all.new.stays i true (omega (arith, length-tabulate (λ k. is_in k done) (length order), in-range)) ∙ ap (λ (l : List Bool). written l c.answer_all.new.stays) marked),
+            append_assoc done (i ∷ []) (matches lists own (drop (j + 1) order)) ∙ ap (λ (l : List ℕ). done ++ l) (sym found) ∙ c.loop-j.invariant.3,
+          ))
+      | else-is_prefix_of w ↦ (
+          let none = rw (sym answer ∙ w.if-is_prefix_of.false) at step in
+          (done, omega arith, w.stays-is ∙ c.loop-j.invariant.2, ap (λ (l : List ℕ). done ++ l) (sym none) ∙ c.loop-j.invariant.3))
+    ]
 
 pub returns : goal.returns
 unfolding matches group_at

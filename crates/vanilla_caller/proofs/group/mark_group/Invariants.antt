@@ -1,22 +1,13 @@
 -- The records of the group that were passed are marked, and with those still to come they are the group.
-use mathlib.Core.Bool.{Bool, true, false}
-use mathlib.Core.List.{List, [], ◌∷◌, ◌++◌, append_assoc, append-nil}
-use mathlib.Core.Logic.{⊎_elim}
-use mathlib.Core.Path.{◌≡◌, refl, sym, ◌∙◌, ap}
-use Prim.Native.Nat.{ℕ, ◌+◌, ◌-◌, ◌≤◌}
-use native.Mathlib.Omega.{arith}
-use borrow.Author.Rules.{rules}
-use lib.ListN.{length, drop, get_or, drop_of_length-le}
+use mathlib.Core.List.{List, ◌++◌}
+use mathlib.Core.Path.{◌≡◌}
+use Prim.Native.Nat.{ℕ, ◌-◌, ◌≤◌}
+use lib.ListN.{length, drop, get_or}
 use Rattle.lists.specs.Tabulate.{tabulate}
 use Rattle.lists.specs.Written.{written}
-use Rattle.lists.proofs.Tabulate.{length-tabulate, set-tabulate}
-use Rattle.lists.proofs.Written.{length-written, set-written, written_again}
-use Rattle.raw_bam.specs.Prefix.{is_prefix}
-use Rattle.vanilla_caller.specs.Founding.{matches, group_at}
+use Rattle.vanilla_caller.specs.Founding.{matches}
 use Rattle.lists.specs.Member.{is_in}
 use Rattle.vanilla_caller.specs.Side.{list_of}
-use Rattle.vanilla_caller.proofs.Groups.{matches_step}
-use Rattle.lists.proofs.Member.{is_in_here, is_in_other}
 use Rattle.vanilla_caller.proofs.group.mark_group.Given as goal
 
 abbrev pub invariant-loop-j : goal.invariant-loop-j

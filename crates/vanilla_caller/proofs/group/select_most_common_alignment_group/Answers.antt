@@ -1,5 +1,4 @@
 use mathlib.Core.Path.{◌≡◌, sym}
-use native.Mathlib.Omega.{arith}
 use borrow.Author.Tests.{lt-ltb, le-ltb}
 use lib.ListN.{length, take}
 use Rattle.lists.proofs.Written.{take_count}
@@ -8,7 +7,6 @@ use Rattle.vanilla_caller.specs.Order.{by_length}
 use Rattle.vanilla_caller.specs.Side.{list_of}
 use Rattle.vanilla_caller.proofs.Groups.{groups_founded}
 use Rattle.vanilla_caller.proofs.Orders.{length-by_length, by_length-below}
-use borrow.Author.Rules.{rules}
 use Rattle.vanilla_caller.proofs.group.select_most_common_alignment_group.Goals as goal
 use Rattle.vanilla_caller.proofs.group.select_most_common_alignment_group.Goals.{After-sort_by_length}
 

@@ -8,7 +8,6 @@ use Rattle.lists.proofs.Written.{take_count}
 use Rattle.raw_bam.specs.Simplified.{simplified}
 use Rattle.raw_bam.proofs.Joining.{length-simplified}
 use Rattle.vanilla_caller.specs.Side.{list_of}
-use borrow.Author.Rules.{rules}
 use Rattle.vanilla_caller.proofs.side.simplified_list.Goals as goal
 
 pub returns : goal.returns
