@@ -72,10 +72,12 @@ fn used(count: u64, output: &[u32]) -> usize
 fn put_there(rt: &impl Print, words: &[u32], read: &[u8], reference: &[u8]) -> io::Result<()> {
     let mut output = [0u32; ROOM];
     let answer = extend_cigar(words, read, reference, &mut output);
+    let kind = answer.kind;
+    let written = answer.count;
     put_converted(rt, answer, &output)?;
-    if answer.kind == 0 {
+    if kind == 0 {
         put(rt, b" back ")?;
-        let count = used(answer.count, &output);
+        let count = used(written, &output);
         put_back(rt, &output[..count])?;
     }
     Ok(())
