@@ -1,8 +1,5 @@
 use mathlib.Core.Bool.{not}
 use mathlib.Core.Path.{sym, ◌∙◌, ap₂}
-use native.Mathlib.Omega.{arith}
-use borrow.Author.Rules.{rules}
-use lib.Seq.{length-take-le}
 use Rattle.lists.proofs.Written.{take_count}
 use Rattle.codec_duplex.specs.Tally.{tallied}
 use Rattle.codec_strands.proofs.Orientation.{length_bases_padded}

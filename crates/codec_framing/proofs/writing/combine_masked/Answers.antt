@@ -1,4 +1,3 @@
-use borrow.Author.Rules.{rules}
 use Rattle.codec_duplex.specs.Columns.{strand, combined_column}
 use Rattle.codec_duplex.specs.declared.position.Position.{Position}
 use Rattle.codec_framing.specs.Framing.{masked_duplex}

@@ -1,4 +1,3 @@
-use borrow.Author.Rules.{rules}
 use Rattle.codec_framing.specs.Framing.{padded_r1, padded_r2}
 use Rattle.codec_framing.proofs.writing.pad_strands.Goals as goal
 
