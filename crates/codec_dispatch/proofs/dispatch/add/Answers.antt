@@ -1,6 +1,5 @@
 use mathlib.Core.Path.{sym, ◌∙◌}
-use borrow.Author.Rules.{rules}
-use Rattle.codec_dispatch.proofs.Lanes.{add-refusal, add-taken}
+use Rattle.codec_dispatch.proofs.Lanes.{add-refusal}
 use Rattle.codec_dispatch.proofs.dispatch.add.Goals as goal
 
 pub returns-in-NoRefusal : goal.returns-in-NoRefusal

@@ -1,10 +1,6 @@
-use mathlib.Core.Path.{◌≡◌, refl, sym, ◌∙◌}
-use Prim.Native.Nat.{◌+◌, ◌-◌, ◌%◌, ◌≤◌}
+use mathlib.Core.Path.{◌≡◌, sym, ◌∙◌}
 use native.Mathlib.Omega.{arith}
-use borrow.Author.Rules.{rules}
 use borrow.Author.Tests.{lt-ltb, le-ltb}
-use lib.Dec.{ltb}
-use lib.ListN.{get_or, drop}
 use Rattle.lists.specs.Tabulate.{tabulate}
 use Rattle.codec_dispatch.specs.Dispatch.{waits, circle, first_of, next}
 use Rattle.codec_dispatch.proofs.Lanes.{first_here, first_past, length-circle, circle_at}

@@ -1,13 +1,9 @@
-use mathlib.Core.Path.{◌≡◌, refl, sym, ◌∙◌}
+use mathlib.Core.Path.{◌≡◌}
 use Prim.Native.Nat.{◌+◌, ◌-◌, ◌%◌, ◌≤◌}
-use native.Mathlib.Omega.{arith}
-use borrow.Author.Rules.{rules}
-use borrow.Author.Tests.{lt-ltb, le-ltb}
 use lib.Dec.{ltb}
 use lib.ListN.{get_or, drop}
 use Rattle.lists.specs.Tabulate.{tabulate}
-use Rattle.codec_dispatch.specs.Dispatch.{waits, circle, first_of, next}
-use Rattle.codec_dispatch.proofs.Lanes.{first_here, first_past, length-circle, circle_at}
+use Rattle.codec_dispatch.specs.Dispatch.{first_of}
 use Rattle.codec_dispatch.proofs.dispatch.next.Given as goal
 
 abbrev pub invariant-loop-k : goal.invariant-loop-k

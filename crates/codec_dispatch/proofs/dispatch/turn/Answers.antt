@@ -1,6 +1,5 @@
 use mathlib.Core.Path.{sym, ◌∙◌}
 use native.Mathlib.Omega.{arith}
-use borrow.Author.Rules.{rules}
 use borrow.Author.Tests.{lt-ltb}
 use Rattle.codec_dispatch.specs.Dispatch.{turn}
 use Rattle.codec_dispatch.proofs.Lanes.{next_found, turn-next}
