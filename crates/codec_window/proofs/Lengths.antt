@@ -67,10 +67,10 @@ measured positive negative h k last n e = from (read_position false positive.ops
     from NoBase q a b l = absurd (no_length l)
 
 -- what is kept has a length
-kept_from : (below : Bool) (window : Span) (length : ConsensusLength) (reason : RejectionReason) (first last n : ℕ)
-    → cond below (Rejected InsufficientOverlap) (kept_or window length reason) ≡ Kept first last n
-    → (window.start ≡ first) × (window.end ≡ last) × (length ≡ Bases n)
-kept_from true window length reason first last n e = let z : ◌≡◌ {A = ℕ} 0 1 = cc in absurd (omega arith)
+kept_from : (below : Bool) (window : Span) (bases : ConsensusLength) (reason : RejectionReason) (first last n : ℕ)
+    → cond below (Rejected InsufficientOverlap) (kept_or window bases reason) ≡ Kept first last n
+    → (window.start ≡ first) × (window.end ≡ last) × (bases ≡ Bases n)
+kept_from true window bases reason first last n e = let z : ◌≡◌ {A = ℕ} 0 1 = cc in absurd (omega arith)
 kept_from false window (Bases m) reason first last n e = (cc, cc, cc)
 kept_from false window NoLength reason first last n e = let z : ◌≡◌ {A = ℕ} 0 1 = cc in absurd (omega arith)
 

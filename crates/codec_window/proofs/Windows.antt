@@ -31,7 +31,7 @@ mag_more (negsuc n) {k} h = cond_cases (λ z. mag z < k) (ltb 1 (suc n)) (λ _. 
 
 -- a signed local holds bits, which are read back
 pub read_back : (z : ℤ) → mag z < 2 ^ 63 → to_z w64 (of_z w64 z) ≡ z
-read_back z h = to_z-of_z (record { sfits = h })
+read_back z h = to_z-of_z {w = w64} (record { sfits = h })
 
 -- two signed numbers are equal where their bits are
 pub eqb_bits : (x y : ℤ) → SFits w64 x → SFits w64 y → eqb (of_z w64 x) (of_z w64 y) ≡ eq_z x y
