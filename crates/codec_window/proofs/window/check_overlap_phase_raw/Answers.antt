@@ -1,5 +1,5 @@
 use mathlib.Core.Path.{◌∙◌, ap₂}
-use borrow.Author.Rules.{rules, sfits_of}
+use borrow.Author.Rules.{sfits_of}
 use Rattle.codec_window.specs.Window.{eq_z, in_phase}
 use Rattle.codec_window.proofs.Windows.{eqb_bits}
 use Rattle.codec_window.proofs.window.check_overlap_phase_raw.Goals as goal

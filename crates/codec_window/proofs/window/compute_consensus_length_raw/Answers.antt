@@ -1,7 +1,6 @@
 use mathlib.Core.Bool.{false}
 use mathlib.Core.Path.{◌≡◌, refl, sym, ◌∙◌}
 use native.Mathlib.Omega.{arith}
-use borrow.Author.Rules.{rules}
 use Rattle.raw_bam.specs.ReadPosition.{read_position}
 use Rattle.raw_bam.specs.declared.read_pos.ReadPos.TheVariants.{Base}
 use Rattle.raw_bam.proofs.Positions.{position-within}

@@ -1,5 +1,4 @@
 use mathlib.Core.Path.{refl}
-use borrow.Author.Rules.{rules}
 use Rattle.codec_window.specs.Window.{length_in}
 use Rattle.codec_window.proofs.window.length_in.Goals as goal
 

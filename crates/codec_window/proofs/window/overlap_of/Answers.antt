@@ -1,7 +1,6 @@
 use mathlib.Core.Bool.{false}
 use mathlib.Core.Path.{◌≡◌, refl, sym, ◌∙◌, ap₂}
 use native.Mathlib.Omega.{arith}
-use borrow.Author.Rules.{rules}
 use Rattle.codec_window.specs.Window.{Alignment, alignment, span_of, true_window, window_of, overlap_in, overlap}
 use Rattle.codec_window.specs.declared.window.Overlap.{Overlap}
 use Rattle.codec_window.specs.declared.window.Span.{Span}

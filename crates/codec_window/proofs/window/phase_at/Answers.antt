@@ -1,4 +1,3 @@
-use borrow.Author.Rules.{rules}
 use Rattle.codec_window.specs.Window.{phase}
 use Rattle.codec_window.proofs.Windows.{read_back}
 use Rattle.codec_window.proofs.window.phase_at.Goals as goal

@@ -1,6 +1,5 @@
 use mathlib.Core.Path.{◌∙◌, ap}
 use native.Mathlib.Omega.{arith}
-use borrow.Author.Rules.{rules}
 use Rattle.codec_window.specs.Window.{alignment, or_zero}
 use Rattle.codec_window.proofs.Windows.{phase_position-within}
 use Rattle.codec_window.proofs.window.phase_position.Goals as goal

@@ -1,6 +1,4 @@
 use mathlib.Core.Path.{refl, ◌∙◌, ap}
-use borrow.Author.Rules.{rules}
-use borrow.Author.Tests.{not-true, not-false}
 use Rattle.codec_window.specs.Window.{dovetail_if, reason_without_length}
 use Rattle.codec_window.proofs.window.reason_without_length.Goals as goal
 

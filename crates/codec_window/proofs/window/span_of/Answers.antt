@@ -1,5 +1,4 @@
 use mathlib.Core.Path.{refl}
-use borrow.Author.Rules.{rules}
 use Rattle.codec_window.specs.Window.{span_of}
 use Rattle.codec_window.proofs.window.span_of.Goals as goal
 
