@@ -1,4 +1,4 @@
-use Rattle.std.proofs.Common.{rules, ◌≡◌, ◌+◌, ◌≤◌, ◌<◌, length, ℕ, ◌/◌, ◌%◌, ◌∙◌, refl, [], ◌∷◌, ap, ◌^◌, arith}
+use Rattle.std.proofs.Common.{◌≡◌, ◌+◌, ◌≤◌, ◌<◌, length, ℕ, ◌/◌, ◌%◌, ◌∙◌, refl, [], ◌∷◌, ap, ◌^◌, arith}
 use Rattle.std.proofs.Math.ListN.{length-append}
 use Rattle.lists.proofs.Sets.{sets_append}
 use Rattle.table_text.specs.Decimal.{decimal}

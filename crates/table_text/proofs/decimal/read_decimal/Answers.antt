@@ -1,5 +1,4 @@
 use Rattle.table_text.specs.Decimal.{number}
-use borrow.Author.Rules.{rules}
 use Rattle.table_text.proofs.decimal.read_decimal.Goals as goal
 
 pub returns-then-starts_plain : goal.returns-then-starts_plain

@@ -1,19 +1,7 @@
-use mathlib.Core.Bool.{Bool, true, false, cond, ◌&&◌, and-false, and-eq-true_iff}
-use mathlib.Core.List.{List, [], ◌∷◌}
-use mathlib.Core.Path.{◌≡◌, refl, sym, ◌∙◌, ap}
-use Prim.Native.Nat.{ℕ, suc, ◌+◌, ◌-◌, ◌*◌, ◌≤◌, ◌<◌}
-use native.Mathlib.Nat.{le_refl, le_trans}
-use native.Mathlib.Numerals.{add-one}
-use native.Mathlib.Omega.{arith}
-use borrow.Author.Rules.{rules}
-use borrow.Author.Tests.{lt-leb, le-leb, leb-true, leb-false}
-use lib.Dec.{leb}
-use lib.ListN.{length, get_or, drop, drop_of_length-le}
-use lib.Seq.{drop-cons}
-use Rattle.lists.specs.Every.{every}
-use Rattle.table_text.specs.Decimal.{is_digit, spelled, digits_number, with_digit}
-use Rattle.table_text.specs.declared.decimal.Number.TheVariants.{Value, Malformed}
-use Rattle.table_text.proofs.Decimals.{taken}
+use mathlib.Core.Path.{◌≡◌}
+use Prim.Native.Nat.{◌-◌, ◌≤◌}
+use lib.ListN.{length, drop}
+use Rattle.table_text.specs.Decimal.{digits_number}
 use Rattle.table_text.proofs.decimal.read_digits.Given as goal
 
 abbrev pub invariant-loop-i : goal.invariant-loop-i

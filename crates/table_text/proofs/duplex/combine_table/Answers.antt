@@ -1,5 +1,4 @@
 use mathlib.Core.Path.{◌≡◌, refl, sym, ◌∙◌, ap}
-use borrow.Author.Rules.{rules}
 use lib.ListN.{length}
 use Rattle.table_text.specs.Duplex.{answer_at, table_answer}
 use Rattle.table_text.specs.InputTable.{Reading}
@@ -15,13 +14,13 @@ answer-is table ending e = ap (λ (r : Checked). answer_at r (length (output_tab
 pub returns-in-Malformed : goal.returns-in-Malformed
 returns-in-Malformed c =
     record {
-  answer = answer-is _ _ (sym c.check_table.ensures ∙ c.in-Malformed.is);
-  output = refl;
-}
+      answer = answer-is _ _ (sym c.check_table.ensures ∙ c.in-Malformed.is);
+      output = refl;
+    }
 
 pub returns : goal.returns
 returns c =
     record {
-  answer = ap Written c.write_table.ensures.value ∙ answer-is _ _ (sym c.check_table.ensures ∙ c.in_default.is);
-  output = c.write_table.ensures.output_after;
-}
+      answer = ap Written c.write_table.ensures.value ∙ answer-is _ _ (sym c.check_table.ensures ∙ c.in_default.is);
+      output = c.write_table.ensures.output_after;
+    }

@@ -1,4 +1,3 @@
-use borrow.Author.Rules.{rules}
 use Rattle.table_text.specs.Fields.{number_field}
 use Rattle.table_text.proofs.FieldLists.{fields_none, fields_next}
 use Rattle.table_text.proofs.fields.read_number.Goals as goal

@@ -1,6 +1,5 @@
 use mathlib.Core.List.{List}
 use Prim.Native.Nat.{ℕ}
-use borrow.Author.Rules.{rules}
 use Rattle.table_text.specs.InputTable.{input_names, input_line, table_of, InputNames}
 use Rattle.table_text.specs.Reading.{TableNames}
 use Rattle.table_text.specs.declared.reading.Names.{Names}

@@ -1,10 +1,5 @@
-use mathlib.Core.Path.{◌≡◌, refl, sym, ◌∙◌, ap}
-use Prim.Native.Nat.{◌-◌, ◌≤◌}
-use native.Mathlib.Omega.{arith}
-use borrow.Author.Rules.{rules}
-use lib.ListN.{length}
-use Rattle.table_text.specs.InputTable.{Reading, input_line, table_from, NextRead}
-use Rattle.table_text.specs.declared.input_table.NextRow.TheVariants.{Row}
+use mathlib.Core.Path.{sym, ◌∙◌, ap}
+use Rattle.table_text.specs.InputTable.{Reading, input_line}
 use Rattle.table_text.proofs.Tables.{table_end}
 use Rattle.table_text.proofs.input_table.check_rows.Goals as goal
 

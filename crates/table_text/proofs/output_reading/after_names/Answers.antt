@@ -1,4 +1,3 @@
-use borrow.Author.Rules.{rules}
 use Rattle.table_text.specs.OutputReading.{partner_names, position_line}
 use Rattle.table_text.proofs.Tables.{names_said}
 use Rattle.table_text.proofs.output_reading.after_names.Goals as goal

@@ -1,12 +1,7 @@
-use mathlib.Core.Path.{◌≡◌, refl, sym, ◌∙◌, ap}
-use Prim.Native.Nat.{◌-◌, ◌≤◌}
-use native.Mathlib.Omega.{arith}
-use borrow.Author.Rules.{rules}
-use lib.ListN.{length}
-use Rattle.table_text.specs.OutputReading.{position_line, partner_from, PositionRead}
+use mathlib.Core.Path.{sym, ◌∙◌, ap}
+use Rattle.table_text.specs.OutputReading.{position_line}
 use Rattle.table_text.specs.Reading.{Table}
 use Rattle.codec_duplex.specs.declared.position.Position.{Position}
-use Rattle.table_text.specs.declared.output_reading.NextPosition.TheVariants as next
 use Rattle.table_text.proofs.Tables.{table_end}
 use Rattle.table_text.proofs.output_reading.check_positions.Goals as goal
 

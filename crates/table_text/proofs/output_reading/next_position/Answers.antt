@@ -1,5 +1,3 @@
-use native.Mathlib.Omega.{arith}
-use borrow.Author.Rules.{rules}
 use Rattle.table_text.specs.OutputReading.{position_line}
 use Rattle.table_text.specs.Reading.{LineRead}
 use Rattle.table_text.specs.declared.reading.LineEnd.TheVariants.{At}

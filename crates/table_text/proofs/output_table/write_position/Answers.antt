@@ -1,10 +1,8 @@
 use mathlib.Core.List.{List, [], ◌∷◌, ◌++◌}
-use mathlib.Core.Path.{◌≡◌, refl, ◌∙◌}
+use mathlib.Core.Path.{refl}
 use Prim.Native.Nat.{ℕ, ◌+◌}
 use native.Mathlib.Numerals.{add-one}
-use native.Mathlib.Omega.{arith}
-use borrow.Author.Rules.{rules}
-use lib.ListN.{length, set, length-set}
+use lib.ListN.{set}
 use Rattle.table_text.specs.OutputTable.{number_text, position_text, Stored}
 use Rattle.codec_duplex.specs.declared.position.Position.{Position}
 use Rattle.table_text.proofs.Stores.{stored_then}

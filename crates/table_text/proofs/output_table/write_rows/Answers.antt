@@ -1,14 +1,12 @@
 use mathlib.Core.List.{List, []}
-use mathlib.Core.Path.{◌≡◌, refl, sym, ◌∙◌, ap}
-use Prim.Native.Nat.{ℕ, ◌+◌, ◌-◌, ◌*◌, ◌≤◌}
+use mathlib.Core.Path.{◌≡◌, sym, ◌∙◌, ap}
+use Prim.Native.Nat.{ℕ, ◌+◌}
 use native.Mathlib.Omega.{arith}
-use borrow.Author.Rules.{rules}
 use lib.ListN.{length}
 use lib.Seq.{sets}
 use Rattle.codec_duplex.specs.Position.{combined}
-use Rattle.table_text.specs.InputTable.{Reading, input_line, table_from, NextRead}
+use Rattle.table_text.specs.InputTable.{Reading, input_line, table_from}
 use Rattle.table_text.specs.OutputTable.{position_text, rows_text, Stored}
-use Rattle.table_text.specs.declared.input_table.NextRow.TheVariants.{Row}
 use Rattle.codec_duplex.specs.declared.position.Position.{Position}
 use Rattle.table_text.specs.Reading.{row, line_then}
 use Rattle.table_text.proofs.Stores.{stored_more}
@@ -30,7 +28,7 @@ module _ (input old : List ℕ) (start to : ℕ) where
       → end + length (rows_text (table_from input line at).rows) ≡ to + length (rows_text (table_from input 2 start).rows)
       → sets output end (rows_text (table_from input line at).rows) ≡ sets old to (rows_text (table_from input 2 start).rows)
       → (next + length (rows_text (table_from input (line + 1) after).rows) ≡ to + length (rows_text (table_from input 2 start).rows))
-          × (sets new next (rows_text (table_from input (line + 1) after).rows) ≡ sets old to (rows_text (table_from input 2 start).rows))
+      × (sets new next (rows_text (table_from input (line + 1) after).rows) ≡ sets old to (rows_text (table_from input 2 start).rows))
   unfolding rows_text
   row_stored line at output end first second after p whole is stored size same =
       let rows = ap (λ (r : Reading). rows_text r.rows) whole in

@@ -1,16 +1,9 @@
-use mathlib.Core.List.{List, []}
-use mathlib.Core.Path.{◌≡◌, refl, sym, ◌∙◌, ap}
-use Prim.Native.Nat.{ℕ, ◌+◌, ◌-◌, ◌*◌, ◌≤◌}
-use native.Mathlib.Omega.{arith}
-use borrow.Author.Rules.{rules}
+use mathlib.Core.Path.{◌≡◌}
+use Prim.Native.Nat.{◌+◌, ◌-◌, ◌*◌, ◌≤◌}
 use lib.ListN.{length}
 use lib.Seq.{sets}
-use Rattle.codec_duplex.specs.Position.{combined}
-use Rattle.table_text.specs.InputTable.{Reading, input_line, table_from, NextRead}
-use Rattle.table_text.specs.OutputTable.{position_text, rows_text, Stored}
-use Rattle.table_text.specs.declared.input_table.NextRow.TheVariants.{Row}
-use Rattle.table_text.proofs.Stores.{stored_more}
-use Rattle.table_text.proofs.Tables.{table_end}
+use Rattle.table_text.specs.InputTable.{table_from}
+use Rattle.table_text.specs.OutputTable.{rows_text}
 use Rattle.table_text.proofs.output_table.write_rows.Given as goal
 
 abbrev pub invariant-loop-at : goal.invariant-loop-at

@@ -1,6 +1,5 @@
 use Prim.Native.Nat.{ℕ, ◌^◌, ◌≤◌, ◌<◌}
 use native.Mathlib.Omega.{arith}
-use borrow.Author.Rules.{rules}
 use lib.ListN.{length}
 use Rattle.table_text.specs.OutputTable.{number_text}
 use Rattle.table_text.proofs.Stores.{length-number_text}

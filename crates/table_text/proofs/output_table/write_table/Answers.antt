@@ -1,7 +1,6 @@
 use mathlib.Core.List.{◌++◌}
 use mathlib.Core.Path.{◌≡◌, ap}
 use native.Mathlib.Omega.{arith}
-use borrow.Author.Rules.{rules}
 use Rattle.table_text.specs.InputTable.{Reading, malformed_at, table_from}
 use Rattle.table_text.specs.OutputTable.{output_names, rows_text, output_table}
 use Rattle.table_text.proofs.Stores.{written_then}

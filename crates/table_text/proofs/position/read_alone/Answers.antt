@@ -1,4 +1,3 @@
-use borrow.Author.Rules.{rules}
 use Rattle.table_text.specs.OutputReading.{position_line}
 use Rattle.table_text.proofs.FieldLists.{fields_none, fields_whole, fields_some}
 use Rattle.table_text.proofs.position.read_alone.Goals as goal

@@ -2,7 +2,6 @@ use mathlib.Core.List.{List}
 use mathlib.Core.Path.{◌≡◌, sym, ◌∙◌, ap}
 use Prim.Native.Nat.{ℕ, ◌≤◌}
 use native.Mathlib.Omega.{arith}
-use borrow.Author.Rules.{rules}
 use Rattle.table_text.specs.Fields.{fields_from, number_field, number_in}
 use Rattle.table_text.specs.Rows.{position_fields}
 use Rattle.table_text.specs.declared.fields.NumberField.{NumberField}

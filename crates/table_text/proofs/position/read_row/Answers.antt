@@ -1,4 +1,3 @@
-use borrow.Author.Rules.{rules}
 use Rattle.table_text.specs.Rows.{row_of}
 use Rattle.table_text.proofs.FieldLists.{fields_none, fields_whole, fields_some}
 use Rattle.table_text.proofs.position.read_row.Goals as goal

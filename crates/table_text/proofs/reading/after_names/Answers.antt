@@ -2,7 +2,6 @@ use mathlib.Core.List.{List}
 use mathlib.Core.Path.{◌≡◌, sym, ◌∙◌}
 use Prim.Native.Nat.{ℕ, ◌<◌, ◌-◌}
 use native.Mathlib.Omega.{arith}
-use borrow.Author.Rules.{rules}
 use Rattle.std.specs.Cmp.Lexicographic.{same_text, other_text}
 use lib.ListN.{length, take}
 use Rattle.table_text.specs.Parts.{Parts, ended}

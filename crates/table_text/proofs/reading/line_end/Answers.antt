@@ -2,10 +2,8 @@ use mathlib.Core.Bool.{false}
 use mathlib.Core.Path.{◌≡◌, refl}
 use Prim.Native.Nat.{ℕ, ◌<◌}
 use native.Mathlib.Omega.{arith}
-use borrow.Author.Rules.{rules}
 use borrow.Author.Tests.{lt-leb}
-use lib.ListN.{drop}
-use Rattle.table_text.specs.Parts.{Parts, last, ended, parts}
+use Rattle.table_text.specs.Parts.{Parts, last, ended}
 use Rattle.table_text.specs.Reading.{may_hold}
 use Rattle.table_text.proofs.Partings.{part_ended, part_last}
 use Rattle.table_text.proofs.reading.line_end.Goals as goal
