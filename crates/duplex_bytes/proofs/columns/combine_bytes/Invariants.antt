@@ -1,18 +1,12 @@
-use mathlib.Core.List.{List}
-use mathlib.Core.Path.{◌≡◌, ◌∙◌, ap, ap₂}
-use Prim.Native.Nat.{ℕ, ◌+◌, ◌*◌, ◌≤◌, ◌<◌, ◌-◌}
-use native.Mathlib.Omega.{arith}
-use borrow.Author.Rules.{rules}
-use lib.ListN.{length, length-set}
+use mathlib.Core.Path.{◌≡◌}
+use Prim.Native.Nat.{◌≤◌, ◌-◌}
+use lib.ListN.{length}
 use Rattle.lists.specs.Tabulate.{tabulate}
 use Rattle.lists.specs.Written.{written}
-use Rattle.codec_duplex.specs.Columns.{strand, field_at, combined_column}
-use Rattle.codec_duplex.specs.Position.{combined}
+use Rattle.codec_duplex.specs.Columns.{strand, field_at}
 use Rattle.codec_duplex.specs.declared.position.Position.{Position}
-use Rattle.codec_duplex.proofs.BasesAlone.{bases_alone_lem, quals_alone}
 use Rattle.duplex_bytes.specs.Bytes.{read}
 use Rattle.duplex_bytes.specs.Words.{low_first}
-use Rattle.duplex_bytes.proofs.Laws.{length-words, low_first_put}
 use Rattle.duplex_bytes.proofs.columns.combine_bytes.Given as goal
 
 abbrev pub invariant-loop-i : goal.invariant-loop-i

@@ -1,5 +1,5 @@
 use mathlib.Core.Bool.{Bool, true, false, cond, ◌&&◌, and-eq-true_iff}
-use mathlib.Core.List.{List, [], ◌∷◌, ◌++◌}
+use mathlib.Core.List.{[], ◌∷◌, ◌++◌}
 use mathlib.Core.Path.{◌≡◌, refl, sym, ◌∙◌, ap}
 use Prim.Native.Nat.{ℕ, ◌/◌}
 use lib.Ieee.{Float}
@@ -12,13 +12,12 @@ use Rattle.codec_duplex.specs.Limits.{Judgement, refused, judgement_of, is_duple
 use Rattle.codec_duplex.specs.Tally.{tallied}
 use Rattle.codec_duplex.specs.declared.limits.DuplexAnswer.{DuplexAnswer}
 use Rattle.codec_duplex.specs.declared.tally.DuplexBaseTally.{DuplexBaseTally}
-use Rattle.codec_duplex.proofs.Laws.{at_most_2048, fitting}
+use Rattle.codec_duplex.proofs.Laws.{fitting}
 use Rattle.duplex_bytes.specs.Answer.{reported}
 use Rattle.duplex_bytes.specs.Bytes.{read, read_duplex, pair_lengths, duplex_pair_lengths, byte_outcome, FilledBytes, CombiningBytes}
 use Rattle.duplex_bytes.specs.Words.{even}
 use Rattle.duplex_bytes.specs.declared.answer.CombineAnswer.{CombineAnswer}
 use Rattle.duplex_bytes.proofs.Laws.{length-words}
-use borrow.Author.Rules.{rules}
 use Rattle.duplex_bytes.proofs.combining.build_duplex_consensus_from_bytes.Goals as goal
 
 -- one of two tests fails

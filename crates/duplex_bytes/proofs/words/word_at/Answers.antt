@@ -1,5 +1,4 @@
 use mathlib.Core.Path.{◌∙◌, sym}
-use borrow.Author.Rules.{rules}
 use Rattle.duplex_bytes.proofs.Laws.{words_at}
 use Rattle.duplex_bytes.proofs.words.word_at.Goals as goal
 
