@@ -49,6 +49,7 @@ fn number_after(number: u64) -> u64
 
 // The family whose lines begin at a place.
 fn answer_next(
+    rt: &(impl Print + Eprint),
     text: &[u8],
     at: usize,
     answering: bool,
@@ -104,7 +105,7 @@ fn answer_next(
                 let r1 = read.r1;
                 let r2 = read.r2;
                 let answer = calls::answer_family(
-                    form, number, found, table, handed, r1, r2, ops, &r1_bases, &r1_quals,
+                    rt, form, number, found, table, handed, r1, r2, ops, &r1_bases, &r1_quals,
                     &r1_depths, &r1_errors, &r2_bases, &r2_quals, &r2_depths, &r2_errors, output,
                     to,
                 );
@@ -127,6 +128,7 @@ fn answer_next(
 
 // Reads the families of a window, and answers each where it is asked to; the file may end where the window does.
 pub(crate) fn answer_window(
+    rt: &(impl Print + Eprint),
     text: &[u8],
     ends: bool,
     answering: bool,
@@ -147,6 +149,7 @@ pub(crate) fn answer_window(
     let mut to = filled;
     while at < text.len() {
         let stepped = answer_next(
+            rt,
             text,
             at,
             answering,

@@ -132,6 +132,7 @@ fn call_family(
 
 // The answer to a family, behind what the output holds; all that is lent is zero before.
 pub(crate) fn answer_family(
+    rt: &(impl Print + Eprint),
     form: Form,
     number: u64,
     found: Header,
@@ -216,7 +217,7 @@ pub(crate) fn answer_family(
         sample,
         named: handed.named,
     };
-    let at = output::make_room(output, to, writing::ANSWER_BYTES);
+    let at = output::make_room(rt, output, to, writing::ANSWER_BYTES);
     let end = writing::write_answer(
         form, number, answer, after, &listed, &reasons, &marks, &d_bases, &d_quals, &d_depths,
         &d_errors, &s1_bases, &s1_quals, &s1_depths, &s1_errors, &s2_bases, &s2_quals, &s2_depths,

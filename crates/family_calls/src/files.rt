@@ -4,48 +4,53 @@ use crate::passes;
 use family_windows::output::Verdict;
 use family_windows::windows::Size;
 use family_windows::{output, windows};
-use libc::STDIN_FILENO;
+use std::io::{Read, Seek};
+use std::rt::{Env, Files};
+use std::{env, fs, io};
 
 // Nothing is answered before every line is known to be well formed, so the input is read twice.
-fn answer_file(file: i32, form: Form) {
-    let Size::Bytes(bytes) = windows::file_size(file) else {
+fn answer_file<R: Print + Eprint, F: Read + Seek>(rt: &R, file: &mut F, form: Form) {
+    let Size::Bytes(bytes) = windows::file_size(rt, file) else {
         return;
     };
-    let checked = passes::read_families(file, bytes, false, form);
+    let checked = passes::read_families(rt, file, bytes, false, form);
     if let Verdict::Read = checked {
-        output::report(passes::read_families(file, bytes, true, form));
+        output::report(rt, passes::read_families(rt, file, bytes, true, form));
     } else {
-        output::report(checked);
+        output::report(rt, checked);
     }
 }
 
-fn run_file(i: usize, form: Form) {
-    let mut name = io::buffer();
-    let length = os::arg(i, &mut name);
-    let file = os::open_read(&name[..length]);
-    if file < 0 {
-        os::fail(&name[..length]);
-        return;
+fn run_input<R: Files + Print + Eprint>(rt: &R, form: Form) {
+    match fs::open(rt, windows::STANDARD_INPUT) {
+        Ok(file) => {
+            let mut file = file;
+            answer_file(rt, &mut file, form);
+        }
+        Err(error) => output::say_failed(rt, "standard input", error),
     }
-    output::title(&name[..length]);
-    answer_file(file, form);
-    libc::close(file);
 }
 
-fn run_files(count: usize, form: Form) {
-    let mut i: usize = 1;
-    while i < count {
-        run_file(i, form);
-        i += 1;
+fn run_file<R: Files + Print + Eprint>(rt: &R, name: &str, form: Form) {
+    match fs::open(rt, name) {
+        Ok(file) => {
+            let mut file = file;
+            output::title(rt, name);
+            answer_file(rt, &mut file, form);
+        }
+        Err(error) => output::say_failed(rt, name, error),
     }
 }
 
 // What the programs do: they differ in what they write.
-pub fn run(form: Form) {
-    let count = os::arg_count();
-    if count < 2 {
-        answer_file(STDIN_FILENO, form);
-        return;
+pub fn run<R: Files + Env + Alloc + Print + Eprint>(rt: &R, form: Form) -> io::Result<()> {
+    let names = env::args(rt)?;
+    if names.len() < 2 {
+        run_input(rt, form);
+        return Ok(());
     }
-    run_files(count, form);
+    for name in names.skip(1) {
+        run_file(rt, name.as_str(), form);
+    }
+    Ok(())
 }

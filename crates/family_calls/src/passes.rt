@@ -12,49 +12,51 @@ use handover_text::sheet;
 use ledger_lines::settings::Handed;
 use line_text::lines;
 use sheet_text::sheet::{Sheet, write_sheet};
+use std::io::{Read, Seek};
 
 // Room for the longest answer, and for many of the usual ones.
 const OUTPUT_BYTES: usize = 262144;
 
 // The samples' sheet goes through an output that holds nothing any more.
-fn write_samples(samples: &[u64; 1920], output: &mut [u8])
+fn write_samples(rt: &(impl Print + Eprint), samples: &[u64; 1920], output: &mut [u8])
     requires { 113239 ≤ length output.old }
 {
     match write_sheet(samples, output) {
-        Sheet::Written(end) => output::write_out(&output[..end]),
-        Sheet::Refused(number) => output::write_refusal(number as u64, 0),
+        Sheet::Written(end) => output::write_out(rt, &output[..end]),
+        Sheet::Refused(number) => output::write_refusal(rt, number as u64, 0),
     }
 }
 
 // Writes out what the output holds, and behind it the sheet of the run's ledger.
-fn write_run(ledger: Ledger, output: &mut [u8], to: usize)
+fn write_run(rt: &(impl Print + Eprint), ledger: Ledger, output: &mut [u8], to: usize)
     requires { (to ≤ length output.old) × (113239 ≤ length output.old) }
 {
-    let at = output::make_room(output, to, sheet::SHEET_BYTES);
+    let at = output::make_room(rt, output, to, sheet::SHEET_BYTES);
     let end = sheet::write_sheet(ledger, output, at);
-    output::write_out(&output[..end]);
+    output::write_out(rt, &output[..end]);
 }
 
 // Behind the list that is handed over stand the sheet of the run's ledger and, where samples are named, theirs.
-fn write_end(form: Form, handed: Handed, output: &mut [u8], to: usize)
+fn write_end(rt: &(impl Print + Eprint), form: Form, handed: Handed, output: &mut [u8], to: usize)
     requires { (to ≤ length output.old) × (113239 ≤ length output.old) }
 {
     let ledger = handed.ledger;
     let samples = handed.samples;
     match form {
-        Form::Answers => output::write_out(&output[..to]),
-        Form::Sheet => write_samples(&samples, output),
+        Form::Answers => output::write_out(rt, &output[..to]),
+        Form::Sheet => write_samples(rt, &samples, output),
         Form::Handover => {
-            write_run(ledger, output, to);
+            write_run(rt, ledger, output, to);
             if handed.named {
-                write_samples(&samples, output);
+                write_samples(rt, &samples, output);
             }
         }
     }
 }
 
-fn read_windows(
-    file: i32,
+fn read_windows<R: Print + Eprint, F: Read + Seek>(
+    rt: &R,
+    file: &mut F,
     size: usize,
     answering: bool,
     form: Form,
@@ -77,7 +79,7 @@ fn read_windows(
         let text = &window[..got];
         let ends = got == size - offset;
         let read = answers::answer_window(
-            text, ends, answering, form, number, handed, ops, output, to,
+            rt, text, ends, answering, form, number, handed, ops, output, to,
         );
         let reached = read.reached;
         match reached {
@@ -95,19 +97,26 @@ fn read_windows(
         }
     }
     if answering {
-        write_end(form, handed, output, to);
+        write_end(rt, form, handed, output, to);
     }
     Verdict::Read
 }
 
 // Reads the families of a file that has so many bytes, and answers each where it is asked to.
-pub(crate) fn read_families(file: i32, size: usize, answering: bool, form: Form) -> Verdict
+pub(crate) fn read_families<R: Print + Eprint, F: Read + Seek>(
+    rt: &R,
+    file: &mut F,
+    size: usize,
+    answering: bool,
+    form: Form,
+) -> Verdict
     requires { size < 2 ^ 63 }
 {
     let mut window = [0u8; windows::WINDOW_BYTES];
     let mut ops = [0u32; family::WORDS];
     let mut output = [0u8; OUTPUT_BYTES];
     read_windows(
+        rt,
         file,
         size,
         answering,

@@ -4,7 +4,8 @@
 
 use family_calls::files;
 use family_calls::form::Form;
+use std::io;
 
-fn main() {
-    files::run(Form::Answers);
+fn main(rt: HostRuntime) -> io::Result<()> {
+    files::run(&rt, Form::Answers)
 }

@@ -6,11 +6,14 @@ ghost use Rattle.family_windows.specs.Places.{stopped, SizeWithin};
 
 use codec_stats::ledger::Ledger;
 use ledger_lines::settings::Handed;
-use libc::STDERR_FILENO;
 use line_text::lines::{Next, Stop};
+use std::io::{Read, Seek, SeekFrom};
 
 // A well-formed family is shorter: 600 records, 9,000 words and eight columns of 1,100 places are below 200,000 bytes.
 pub const WINDOW_BYTES: usize = 524288;
+
+// Standard input under the name that opens it as a file, since a pass goes back to its beginning.
+pub const STANDARD_INPUT: &str = "/dev/stdin";
 
 // Where the next window begins, and how much of the output is filled; or where a malformed line begins.
 #[derive(Drop)]
@@ -63,16 +66,20 @@ fn least(a: usize, b: usize) -> usize
 }
 
 // How many bytes of the file from the offset on stand in the window; none where fewer are read than there should be.
-pub fn read_window(file: i32, offset: usize, size: usize, window: &mut [u8]) -> usize
+pub fn read_window<F: Read + Seek>(
+    file: &mut F,
+    offset: usize,
+    size: usize,
+    window: &mut [u8],
+) -> usize
     requires { (offset < size) × (size < 2 ^ 63) }
     ensures { (result ≤ length window.new) × (offset + result ≤ size) }
 {
     let expected = least(size - offset, window.len());
-    if libc::lseek(file, offset as i64, libc::SEEK_SET) < 0 {
+    if file.seek(SeekFrom::Start(offset as u64)).is_err() {
         return 0;
     }
-    let got = io::read_full(file, &mut window[..expected]);
-    if got < expected {
+    if file.read_exact(&mut window[..expected]).is_err() {
         return 0;
     }
     expected
@@ -101,15 +108,14 @@ pub fn stop_window(ledgers: Next, stop: Stop, ends: bool, to: usize) -> Reached
 }
 
 // How many bytes a file has; a pipe has no size, and standard error says so.
-pub fn file_size(file: i32) -> Size
+pub fn file_size(rt: &impl Eprint, file: &mut impl Seek) -> Size
     ensures { SizeWithin result }
 {
-    let size = libc::lseek(file, 0, libc::SEEK_END);
-    if size < 0 {
-        io::write_all(
-            STDERR_FILENO,
-            b"the input is read twice: it has to be a file, and not a pipe\n",
-        );
+    let Ok(size) = file.seek(SeekFrom::End(0)) else {
+        let _ = rt.eprintln("the input is read twice: it has to be a file, and not a pipe");
+        return Size::Unknown;
+    };
+    if (i64::MAX as u64) < size {
         return Size::Unknown;
     }
     Size::Bytes(size as usize)

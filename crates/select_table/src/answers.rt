@@ -24,6 +24,7 @@ enum Step {
 }
 
 fn answer_family(
+    rt: &(impl Print + Eprint),
     found: Header,
     table: [Record; 512],
     ops: &[u32],
@@ -33,7 +34,7 @@ fn answer_family(
     requires { (found.words ≤ length ops.now) × (to ≤ length output.old) × (433 ≤ length output.old) }
     ensures { result ≤ length output.new }
 {
-    let at = output::make_room(output, to, selection_text::ANSWER_BYTES);
+    let at = output::make_room(rt, output, to, selection_text::ANSWER_BYTES);
     let words = found.words;
     let columns = columns_of(table, found.records);
     let selection = alone::select_marked(columns, found.records, &ops[..words], found.options);
@@ -42,6 +43,7 @@ fn answer_family(
 
 // The family whose lines begin at a place. Selection asks neither for a ledger nor for strands.
 fn answer_next(
+    rt: &(impl Print + Eprint),
     text: &[u8],
     at: usize,
     answering: bool,
@@ -82,7 +84,7 @@ fn answer_next(
         Ending::Family(found, after) => {
             if answering {
                 let table = read.table;
-                Step::Until(after, answer_family(found, table, ops, output, to))
+                Step::Until(after, answer_family(rt, found, table, ops, output, to))
             } else {
                 Step::Until(after, to)
             }
@@ -92,6 +94,7 @@ fn answer_next(
 
 // Reads the families of a window, and answers each where it is asked to; the file may end where the window does.
 pub fn answer_window(
+    rt: &(impl Print + Eprint),
     text: &[u8],
     ends: bool,
     answering: bool,
@@ -106,7 +109,7 @@ pub fn answer_window(
     let mut at = 0;
     let mut to = filled;
     while at < text.len() {
-        match answer_next(text, at, answering, handed, ops, output, to) {
+        match answer_next(rt, text, at, answering, handed, ops, output, to) {
             Step::Until(after, more) => {
                 at = after;
                 to = more;

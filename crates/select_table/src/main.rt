@@ -8,47 +8,56 @@ mod passes;
 use family_windows::output::Verdict;
 use family_windows::windows::Size;
 use family_windows::{output, windows};
-use libc::STDIN_FILENO;
+use std::io::{Read, Seek};
+use std::rt::{Env, Files};
+use std::{env, fs, io};
 
 // Nothing is answered before every line is known to be well formed, so the input is read twice.
-fn answer_file(file: i32) {
-    let Size::Bytes(bytes) = windows::file_size(file) else {
+fn answer_file<R: Print + Eprint, F: Read + Seek>(rt: &R, file: &mut F) {
+    let Size::Bytes(bytes) = windows::file_size(rt, file) else {
         return;
     };
-    let checked = passes::read_families(file, bytes, false);
+    let checked = passes::read_families(rt, file, bytes, false);
     if let Verdict::Read = checked {
-        output::report(passes::read_families(file, bytes, true));
+        output::report(rt, passes::read_families(rt, file, bytes, true));
     } else {
-        output::report(checked);
+        output::report(rt, checked);
     }
 }
 
-fn run_file(i: usize) {
-    let mut name = io::buffer();
-    let length = os::arg(i, &mut name);
-    let file = os::open_read(&name[..length]);
-    if file < 0 {
-        os::fail(&name[..length]);
-        return;
-    }
-    output::title(&name[..length]);
-    answer_file(file);
-    libc::close(file);
-}
-
-fn run_files(count: usize) {
-    let mut i: usize = 1;
-    while i < count {
-        run_file(i);
-        i += 1;
+fn run_input<R: Files + Print + Eprint>(rt: &R) {
+    match fs::open(rt, windows::STANDARD_INPUT) {
+        Ok(file) => {
+            let mut file = file;
+            answer_file(rt, &mut file);
+        }
+        Err(error) => output::say_failed(rt, "standard input", error),
     }
 }
 
-fn main() {
-    let count = os::arg_count();
-    if count < 2 {
-        answer_file(STDIN_FILENO);
-        return;
+fn run_file<R: Files + Print + Eprint>(rt: &R, name: &str) {
+    match fs::open(rt, name) {
+        Ok(file) => {
+            let mut file = file;
+            output::title(rt, name);
+            answer_file(rt, &mut file);
+        }
+        Err(error) => output::say_failed(rt, name, error),
     }
-    run_files(count);
+}
+
+fn run_files<R: Files + Env + Alloc + Print + Eprint>(rt: &R) -> io::Result<()> {
+    let names = env::args(rt)?;
+    if names.len() < 2 {
+        run_input(rt);
+        return Ok(());
+    }
+    for name in names.skip(1) {
+        run_file(rt, name.as_str());
+    }
+    Ok(())
+}
+
+fn main(rt: HostRuntime) -> io::Result<()> {
+    run_files(&rt)
 }

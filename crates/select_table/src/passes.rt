@@ -7,9 +7,14 @@ use family_windows::output::Verdict;
 use family_windows::windows::Reached;
 use family_windows::{output, windows};
 use line_text::lines;
+use std::io::{Read, Seek};
 
-fn read_windows(
-    file: i32,
+// Room for many answers.
+const OUTPUT_BYTES: usize = 65536;
+
+fn read_windows<R: Print + Eprint, F: Read + Seek>(
+    rt: &R,
+    file: &mut F,
     size: usize,
     answering: bool,
     window: &mut [u8],
@@ -28,7 +33,7 @@ fn read_windows(
         }
         let text = &window[..got];
         let ends = got == size - offset;
-        match answers::answer_window(text, ends, answering, ops, output, to) {
+        match answers::answer_window(rt, text, ends, answering, ops, output, to) {
             Reached::Malformed(place) => {
                 return Verdict::Malformed(lines_passed + lines::lines_before(text, place) + 1);
             }
@@ -39,16 +44,29 @@ fn read_windows(
             }
         }
     }
-    output::write_out(&output[..to]);
+    output::write_out(rt, &output[..to]);
     Verdict::Read
 }
 
 // Reads the families of a file that has so many bytes, and answers each where it is asked to.
-pub fn read_families(file: i32, size: usize, answering: bool) -> Verdict
+pub fn read_families<R: Print + Eprint, F: Read + Seek>(
+    rt: &R,
+    file: &mut F,
+    size: usize,
+    answering: bool,
+) -> Verdict
     requires { size < 2 ^ 63 }
 {
     let mut window = [0u8; windows::WINDOW_BYTES];
     let mut ops = [0u32; family::WORDS];
-    let mut output = io::large_buffer();
-    read_windows(file, size, answering, &mut window, &mut ops, &mut output)
+    let mut output = [0u8; OUTPUT_BYTES];
+    read_windows(
+        rt,
+        file,
+        size,
+        answering,
+        &mut window,
+        &mut ops,
+        &mut output,
+    )
 }
