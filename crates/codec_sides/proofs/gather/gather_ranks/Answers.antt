@@ -1,0 +1,17 @@
+use mathlib.Core.Path.{◌≡◌, refl}
+use Prim.Native.Nat.{◌-◌, ◌≤◌}
+use native.Mathlib.Omega.{arith}
+use borrow.Author.Rules.{rules, sfits_of}
+use lib.IntN.{pos}
+use lib.ListN.{length, get_or, take}
+use lib.Seq.{take_all}
+use mir.Facts.{to_z-of_z}
+use Rattle.lists.specs.Written.{written}
+use Rattle.lists.proofs.Map.{written-map_put, length-written-map}
+use Rattle.codec_sides.specs.Side.{gathered}
+use Rattle.codec_sides.proofs.gather.gather_ranks.Goals as goal
+
+pub loop-k-preserved : goal.loop-k-preserved
+loop-k-preserved c =
+    let side = c.args.side.now in
+    (omega arith, written-map_put (λ r. get_or c.args.ranks.now r (pos 0)) side 0 c.args.out.now c.loop-k.k (omega arith) (omega (arith, c.requires.side_in_bounds)) c.loop-k.invariant.1 (search rules))

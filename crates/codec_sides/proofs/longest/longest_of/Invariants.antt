@@ -1,0 +1,19 @@
+-- The longest of the records before place k, with its reference bases.
+use mathlib.Core.Logic.{⊎_elim}
+use mathlib.Core.Path.{◌≡◌, sym}
+use Prim.Native.Nat.{ℕ, ◌-◌, ◌≤◌}
+use native.Mathlib.Omega.{arith}
+use borrow.Author.Rules.{rules}
+use lib.ListN.{length, get_or}
+use Rattle.codec_sides.specs.Side.{reference_bases_of, longest_of}
+use Rattle.codec_sides.proofs.Most.{Leads, leads_new, leads_still, leads-map}
+use Rattle.codec_sides.proofs.longest.longest_of.Given as goal
+
+abbrev pub invariant-loop-k : goal.invariant-loop-k
+invariant-loop-k l =
+    (l.k ≤ length l.side)
+    × (l.most ≡ reference_bases_of l.ops l.starts l.counts (get_or l.side l.longest 0))
+    × Leads (λ j. reference_bases_of l.ops l.starts l.counts (get_or l.side j 0)) l.longest l.k
+
+abbrev pub decreases-loop-k : goal.decreases-loop-k
+decreases-loop-k l = length l.side - l.k

@@ -1,0 +1,24 @@
+-- A fate for the records from place k on that do not stay gives what a fate for all of them gives.
+use mathlib.Core.Bool.{false, not}
+use mathlib.Core.List.{List, [], map}
+use mathlib.Core.Logic.{⊎_elim}
+use mathlib.Core.Path.{◌≡◌, refl, sym, ◌∙◌, ap}
+use Prim.Native.Nat.{ℕ, ◌-◌, ◌≤◌, ◌<◌}
+use native.Mathlib.Omega.{arith}
+use borrow.Author.Rules.{rules}
+use lib.ListN.{length, get_or, set, drop, length-map, length-set}
+use lib.Seq.{drop-length}
+use Rattle.lists.proofs.Map.{get_d-map-within}
+use Rattle.caller.specs.Fates.{undecided_number, first_fate}
+use Rattle.codec_sides.specs.Side.{kept, dropped, given_fate}
+use Rattle.codec_sides.proofs.Keeping.{kept_yes, kept_no, given_fate-none, given_fate_more}
+use Rattle.codec_sides.proofs.staying.give_fate_to_dropped.Given as goal
+
+abbrev pub invariant-loop-k : goal.invariant-loop-k
+invariant-loop-k l =
+    (l.k ≤ length l.side)
+    × (given_fate l.fate (kept (drop l.k l.side) (drop l.k (map not l.stays))) l.fates ≡ given_fate l.fate (dropped l.side l.stays) l.initial.fates)
+    × (length l.fates ≡ length l.initial.fates)
+
+abbrev pub decreases-loop-k : goal.decreases-loop-k
+decreases-loop-k l = length l.side - l.k

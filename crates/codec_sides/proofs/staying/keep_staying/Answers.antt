@@ -1,0 +1,51 @@
+use mathlib.Core.List.{List, [], ◌∷◌, ◌++◌, append_assoc, append-nil}
+use mathlib.Core.Logic.{⊎_elim}
+use mathlib.Core.Path.{◌≡◌, refl, sym, ◌∙◌, ap}
+use Prim.Native.Nat.{ℕ, ◌+◌, ◌-◌, ◌≤◌}
+use native.Mathlib.Omega.{arith}
+use borrow.Author.Rules.{rules}
+use lib.ListN.{length, get_or, drop, length-append}
+use lib.Seq.{drop-length}
+use Rattle.lists.specs.Written.{written}
+use Rattle.lists.proofs.Written.{length-written, written_more, get_d-written_beyond}
+use Rattle.codec_sides.specs.Side.{kept}
+use Rattle.codec_sides.proofs.Keeping.{kept_yes, kept_no, kept-none}
+use Rattle.codec_sides.proofs.staying.keep_staying.Goals as goal
+use Rattle.codec_sides.proofs.staying.keep_staying.Goals.{then-stays-k, else-stays-k}
+use Rattle.codec_sides.proofs.staying.keep_staying.Goals.{At-loop-k}
+
+-- at the end all that are kept are written
+all_kept : (c : At-loop-k) → c.loop-k.k ≡ length c.args.stays.now → c.loop-k.invariant.0 ≡ kept c.args.side.now c.args.stays.now
+all_kept c end =
+    let side = c.args.side.now in
+    let stays = c.args.stays.now in
+    let none : kept (drop c.loop-k.k side) (drop c.loop-k.k stays) ≡ [] = rw (end, drop-length stays) (kept-none (drop (length stays) side)) in
+    sym (append-nil c.loop-k.invariant.0) ∙ rw none at c.loop-k.invariant.2
+
+pub loop-k-preserved : goal.loop-k-preserved
+loop-k-preserved c =
+    let side = c.args.side.now in
+    let stays = c.args.stays.now in
+    let k = c.loop-k.k in
+    let done = c.loop-k.invariant.0 in
+    let own = get_or side k 0 in
+    elim c.if-stays-k.branch [ then-stays-k w ↦ (
+    let found = kept_yes side stays k (omega (arith, c.requires)) (omega arith) w.if-stays-k.true in
+    let read : get_or c.loop-k.side k 0 ≡ own = ap (λ (l : List ℕ). get_or l k 0) c.loop-k.invariant.5 ∙ get_d-written_beyond done side k 0 (omega arith) in (
+      done ++ (own ∷ []),
+      omega arith,
+      append_assoc done (own ∷ []) _ ∙ ap (λ (l : List ℕ). done ++ l) (sym found) ∙ c.loop-k.invariant.2,
+      w.count-is ∙ rw c.loop-k.invariant.3 (sym (length-append done (own ∷ []))),
+      omega (arith, w.count-is),
+      w.side-is ∙ rw (read, c.loop-k.invariant.5, c.loop-k.invariant.3) (written_more done side own (omega (arith, c.requires))),
+    ))
+    | else-stays-k w ↦ (
+    let passed = kept_no side stays k (omega (arith, c.requires)) (omega arith) w.if-stays-k.false in
+    (done, omega arith, ap (λ (l : List ℕ). done ++ l) (sym passed) ∙ c.loop-k.invariant.2, w.count-is ∙ c.loop-k.invariant.3, omega (arith, w.count-is), w.side-is ∙ c.loop-k.invariant.5))
+ ]
+
+pub returns-clause-value : goal.returns-clause-value
+returns-clause-value c = c.loop-k.invariant.3 ∙ ap length (all_kept (goal.at.returns-clause-value c).At-loop-k (omega arith))
+
+pub returns-clause-side_after : goal.returns-clause-side_after
+returns-clause-side_after c = rw (all_kept (goal.at.returns-clause-side_after c).At-loop-k (omega arith)) at c.loop-k.invariant.5
