@@ -1,14 +1,21 @@
 -- Laws of the fields of a line by a layout.
+use mathlib.Core.Bool.{false}
 use mathlib.Core.List.{List, [], ◌∷◌, ◌++◌, append_assoc}
 use mathlib.Core.Path.{◌≡◌, refl, sym, ap}
 use Prim.Native.Nat.{ℕ, ◌+◌, ◌≤◌, ◌<◌}
 use native.Mathlib.Numerals.{add-one}
-use lib.ListN.{length, get_or, drop, drop_of_length-le}
+use lib.ListN.{length, get_or, drop, drop_of_length-le, replicate}
 use lib.Seq.{drop-cons}
+use Rattle.lists.specs.Written.{written}
 use Rattle.table_text.specs.Fields.{Read, read, malformed}
 use Rattle.line_text.specs.Line.{in_front, values_of}
-use Rattle.line_text.specs.Value.{value_field}
+use Rattle.line_text.specs.Value.{none, value_field}
+use Rattle.line_text.specs.declared.line.Values.{Values}
 use Rattle.line_text.specs.declared.value.Value.{Value}
+
+-- the values of the fields passed, not yet a whole line
+abbrev pub column_of : List Value → Values
+column_of done = record { well_formed = false; values = written done (replicate 20 none) }
 
 pub front_none : (r : Read (List Value)) → in_front [] r ≡ r
 front_none (read vs rest) = refl

@@ -1,10 +1,8 @@
--- The first field goes up to the first space or the end; it is the tag where it is those two bytes.
 use mathlib.Core.Bool.{cond}
 use mathlib.Core.List.{List, [], ◌∷◌}
 use mathlib.Core.Path.{◌≡◌, refl, sym, ◌∙◌}
 use Prim.Native.Nat.{ℕ, ◌+◌, ◌-◌, ◌≤◌}
 use native.Mathlib.Omega.{arith}
-use borrow.Author.Rules.{rules}
 use borrow.Author.Tests.{eq-eqb, ne_eqb}
 use lib.Dec.{eqb}
 use lib.ListN.{length, get_or, drop}
@@ -13,8 +11,7 @@ use Rattle.table_text.specs.Bytes.{index_of}
 use Rattle.table_text.proofs.FieldLists.{fields_whole, fields_next}
 use Rattle.table_text.specs.Fields.{read, malformed, fields_from, fields_of}
 use Rattle.line_text.specs.Line.{pair_field}
-use Rattle.line_text.proofs.line.read_pair.Statement.{statement}
-use Rattle.line_text.proofs.line.read_pair.Tie as tie
+use Rattle.line_text.proofs.line.read_pair.Goals as goal
 
 not-two : (a b : ℕ) (field : List ℕ) (rest : List (List ℕ)) → (length field ≡ 2 → ⊥) → malformed ≡ pair_field a b (field ∷ rest)
 unfolding pair_field
@@ -31,43 +28,22 @@ module _ (a b : ℕ) (line : List ℕ) (end : ℕ) (is : end ≡ 0 + index_of 32
   unfolding pair_field
   two e = rw (fields_whole line, fields_next line 0 end (omega arith) is h, e, drop-cons line 0 0 (omega arith), drop-cons line 1 0 (omega arith))
 
-part-end-requires : tie.Need-part-end-requires
-part-end-requires c κs = search rules
+pub returns-then-end-ne2 : goal.returns-then-end-ne2
+returns-then-end-ne2 c =
+    let found = c.part_end-end.ensures in
+    other _ _ _ _ found.0 found.1 c.if-end-ne2.true
 
-returns : tie.Need-returns
-returns c =
-    let found = c.before.part-end.ensures in
-    other _ _ _ _ found.0 found.1 c.if1.true
+pub returns-then-line-first : goal.returns-then-line-first
+returns-then-line-first c =
+    let found = c.part_end-end.ensures in
+    sym (two _ _ _ _ found.0 found.1 c.if-end-ne2.false ∙ rw (ne_eqb _ _ c.if-line-first.true))
 
-shared-slice-read-if2 : tie.Need-shared-slice-read-if2
-shared-slice-read-if2 c = search rules
+pub returns-then-line-second : goal.returns-then-line-second
+returns-then-line-second c =
+    let found = c.part_end-end.ensures in
+    sym (two _ _ _ _ found.0 found.1 c.if-end-ne2.false ∙ rw (eq-eqb _ _ c.if-line-first.false, eq-eqb _ _ c.if-line-second.true, c.if-line-first.false))
 
-returns-2 : tie.Need-returns-2
-returns-2 c =
-    let found = c.before.before.before.part-end.ensures in
-    sym (two _ _ _ _ found.0 found.1 c.before.before.if1.false ∙ rw (ne_eqb _ _ c.if2.true))
-
-shared-slice-read-if3 : tie.Need-shared-slice-read-if3
-shared-slice-read-if3 c = search rules
-
-returns-3 : tie.Need-returns-3
-returns-3 c =
-    let found = c.before.before.before.before.before.part-end.ensures in
-    sym (two _ _ _ _ found.0 found.1 c.before.before.before.before.if1.false ∙ rw (eq-eqb _ _ c.before.before.if2.false, eq-eqb _ _ c.if3.true, c.before.before.if2.false))
-
-returns-4 : tie.Need-returns-4
-returns-4 c =
-    let found = c.before.before.before.before.before.part-end.ensures in
-    sym (two _ _ _ _ found.0 found.1 c.before.before.before.before.if1.false ∙ rw (eq-eqb _ _ c.before.before.if2.false, ne_eqb _ _ c.if3.false))
-
-pub read-pair-spec : {M : Type 1} → statement M
-read-pair-spec =
-    tie.close
-    (tie.spec
-    part-end-requires
-    returns
-    shared-slice-read-if2
-    returns-2
-    shared-slice-read-if3
-    returns-3
-    returns-4)
+pub returns-else-line-second : goal.returns-else-line-second
+returns-else-line-second c =
+    let found = c.part_end-end.ensures in
+    sym (two _ _ _ _ found.0 found.1 c.if-end-ne2.false ∙ rw (eq-eqb _ _ c.if-line-first.false, ne_eqb _ _ c.if-line-second.false))

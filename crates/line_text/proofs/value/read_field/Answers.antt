@@ -1,0 +1,19 @@
+use Rattle.table_text.proofs.FieldLists.{fields_none, fields_next}
+use Rattle.line_text.specs.Value.{value_field}
+use Rattle.line_text.proofs.value.read_field.Goals as goal
+
+pub returns-then-line-at : goal.returns-then-line-at
+unfolding value_field
+returns-then-line-at c = rw (fields_none _ _ c.if-line-at.true)
+
+pub returns-in_default : goal.returns-in_default
+unfolding value_field
+returns-in_default c =
+    let found = c.part_end-end.ensures in
+    rw (fields_next _ _ _ c.if-line-at.false found.0 found.1, ← c.read_value.ensures, c.in_default.is)
+
+pub returns : goal.returns
+unfolding value_field
+returns c =
+    let found = c.part_end-end.ensures in
+    rw (fields_next _ _ _ c.if-line-at.false found.0 found.1, ← c.read_value.ensures, c.in-Found.is)
