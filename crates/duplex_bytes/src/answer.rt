@@ -7,7 +7,7 @@ use codec_duplex::limits::DuplexAnswer;
 
 // Kind 0 has both tallies, 1 the disagreements above the count limit, 2 the rate above the rate limit, 3 a refusal's number and what goes with it.
 #[repr(C)]
-#[derive(Clone, Copy)]
+#[derive(Drop)]
 pub struct CombineAnswer {
     pub kind: u32,
     pub refusal: u32,
