@@ -8,12 +8,29 @@ use lib.Dec.{ltb}
 use lib.IntN.{pos}
 use lib.ListN.{length, get_or, take}
 use lib.Seq.{take-suc, take-length}
+use mir.Val.{Val}
+use denote.Laws.{Is}
+use Rattle.codec_records.specs.contracts.columns.Columns as C
 use Rattle.lists.specs.Tabulate.{tabulate}
 use Rattle.lists.proofs.Tabulate.{length-tabulate}
 use Rattle.codec_records.specs.Records.{Full, Holds}
 use Rattle.codec_records.specs.declared.columns.Columns.{Columns}
 use Rattle.codec_records.specs.declared.records.Record.{Record}
 use Rattle.codec_records.proofs.Fitting.{room_all}
+
+-- what is known of columns by value
+pub full_of : (c : Columns) (vs : List Val) → Is C.the_row c vs → Full c
+full_of c vs is =
+    record {
+      flags_full = is.1.1.0.1.0.1;
+      names_full = is.1.1.1.0.1.0.1;
+      verdicts_full = is.1.1.1.1.0.1.0.1;
+      ranks_full = is.1.1.1.1.1.0.1.0.1;
+      clipped_full = is.1.1.1.1.1.1.0.1.0.1;
+      positions_full = is.1.1.1.1.1.1.1.0.1.0.1;
+      starts_full = is.1.1.1.1.1.1.1.1.0.1.0.1;
+      counts_full = is.1.1.1.1.1.1.1.1.1.0.1.0.1;
+    }
 
 abbrev record_at : Columns → ℕ → Record
 record_at c i =
