@@ -32,7 +32,7 @@ fates_text l =
 -- 'disagreement-rejected families, duplexes, bases, duplex bases, disagreements'
 unfoldable pub duplexes_text : Ledger → List ℕ
 duplexes_text l =
-    line_text (bytes_of "disagreement_rejected families:") (l.disagreement_rejected ∷ []) ++
+    line_text (bytes_of "disagreement-rejected families:") (l.disagreement_rejected ∷ []) ++
     (line_text (bytes_of "duplexes:") (l.duplexes ∷ []) ++
     (line_text (bytes_of "bases:") (l.bases ∷ []) ++
     (line_text (bytes_of "duplex bases:") (l.duplex_bases ∷ []) ++

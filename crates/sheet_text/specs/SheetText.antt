@@ -9,7 +9,7 @@ use Rattle.table_text.specs.Texts.{texts}
 
 -- the line of the names
 abbrev pub sheet_names : List ℕ
-sheet_names = bytes_of "SAMPLE FAMILIES RECORDS FILTERED called_number BASES DUPLEX DIFFER PPM\n"
+sheet_names = bytes_of "SAMPLE FAMILIES RECORDS FILTERED CALLED BASES DUPLEX DIFFER PPM\n"
 
 -- numbers on a line, 'spaced and ended as 01's tables are': single spaces, and a line feed
 unfoldable pub numbers_text : List ℕ → List ℕ

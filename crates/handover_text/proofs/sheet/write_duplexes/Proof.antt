@@ -74,7 +74,7 @@ returns c =
     let last = stored_then duplex_bases disagreements _ _ d.write-line4.ensures.0 e.write-line5.ensures.0 in
     let later = stored_then bases (duplex_bases ++ disagreements) _ _ b.write-line3.ensures.0 last in
     let more = stored_then duplexes (bases ++ (duplex_bases ++ disagreements)) _ _ n.write-line2.ensures.0 later in
-    (stored_then (line_text (bytes_of "disagreement_rejected families:") (l.disagreement_rejected ∷ [])) (duplexes ++ (bases ++ (duplex_bases ++ disagreements))) start.args.output.now start.args.to r.write-line.ensures.0 more, omega (arith, r.write-line.ensures.1, n.write-line2.ensures.1, b.write-line3.ensures.1, d.write-line4.ensures.1, e.write-line5.ensures.1))
+    (stored_then (line_text (bytes_of "disagreement-rejected families:") (l.disagreement_rejected ∷ [])) (duplexes ++ (bases ++ (duplex_bases ++ disagreements))) start.args.output.now start.args.to r.write-line.ensures.0 more, omega (arith, r.write-line.ensures.1, n.write-line2.ensures.1, b.write-line3.ensures.1, d.write-line4.ensures.1, e.write-line5.ensures.1))
 
 pub write-duplexes-spec : {M : Type 1} → statement M
 write-duplexes-spec =
