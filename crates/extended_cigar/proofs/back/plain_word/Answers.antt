@@ -1,6 +1,5 @@
 -- By the test.
 use mathlib.Core.Path.{sym, ◌∙◌}
-use borrow.Author.Rules.{rules}
 use Rattle.extended_cigar.specs.Plain.{plain_word}
 use Rattle.extended_cigar.proofs.back.plain_word.Goals as goal
 

@@ -1,22 +1,19 @@
-use mathlib.Core.List.{List, [], ◌∷◌, ◌++◌, map, append_assoc}
-use mathlib.Core.Logic.{⊎_elim}
+use mathlib.Core.List.{List, [], ◌∷◌, ◌++◌, append_assoc}
 use mathlib.Core.Path.{◌≡◌, refl, sym, ◌∙◌, ap}
-use Prim.Native.Nat.{ℕ, ◌+◌, ◌*◌, ◌-◌, ◌≤◌, ◌<◌}
+use Prim.Native.Nat.{ℕ, ◌<◌}
 use native.Mathlib.Omega.{arith}
-use borrow.Author.Rules.{rules}
 use borrow.Author.Tests.{eqb-true}
-use lib.ListN.{length, take, get_or, length-append, length-set}
+use lib.ListN.{length, take, get_or, length-append}
 use lib.Seq.{take-suc, take_all}
 use Rattle.lists.proofs.Cases.{and_both}
 use Rattle.lists.proofs.Written.{length-written, written_more}
 use Rattle.lists.specs.Total.{total}
-use Rattle.lists.specs.Written.{written}
 use Rattle.raw_bam.specs.Cigar.{op_code, read_bases, read_length}
 use Rattle.raw_bam.specs.Simplified.{joined_word}
 use Rattle.extended_cigar.proofs.Accepted.{AcceptedBack, accepted_back}
 use Rattle.extended_cigar.proofs.More.{plain-next, plain_bases, bases_next}
 use Rattle.extended_cigar.specs.Extended.{is_m}
-use Rattle.extended_cigar.specs.Plain.{plain_word, prepend_m, joined_m, plain}
+use Rattle.extended_cigar.specs.Plain.{prepend_m, joined_m, plain}
 use Rattle.extended_cigar.proofs.back.write_plain.Goals as goal
 use Rattle.extended_cigar.proofs.back.write_plain.Goals.{then-last-word, else-last-word}
 use Rattle.extended_cigar.proofs.back.write_plain.Goals.{At-loop-i}
@@ -73,30 +70,31 @@ loop-i-preserved c =
     let here : i < length words = omega arith in
     let made = c.plain_word-word.ensures in
     let with-next = plain-next words i done last here made c.loop-i.invariant.5 in
-    elim c.if-last-word.branch [ then-last-word w ↦ (
-    let both = and_both (is_m last) (is_m word) w.if-last-word.true in
-    let m = eqb-true (op_code last) 0 both.0 in
-    let m' = eqb-true (op_code word) 0 both.1 in
-    let longer : joined_word last word ≡ c.if-last-word.last = omega (arith, w.last-is) in (
-      done,
-      omega arith,
-      omega (arith, w.n-is),
-      c.loop-i.invariant.3 ∙ sym w.n-is,
-      w.output-is ∙ c.loop-i.invariant.4,
-      rw (w.if-last-word.true, longer) at with-next,
-      λ _. rw w.last-is (bases_next words i here made m' (c.loop-i.invariant.6 m)).0,
-    ))
-    | else-last-word w ↦ (
-    let n = c.loop-i.invariant.3 in (
-      done ++ (last ∷ []),
-      omega arith,
-      omega (arith, w.n-is),
-      length-append done (last ∷ []) ∙ omega (arith, w.n-is),
-      w.output-is ∙ rw (c.loop-i.invariant.4, ← n) (written_more done args.output.now last (omega (arith, fits (goal.at.loop-i-preserved c).At-loop-i))),
-      (rw w.if-last-word.false at with-next) ∙ rw w.last-is (sym (append_assoc done (last ∷ []) (word ∷ []))),
-      λ m. rw w.last-is (omega (arith, (bases_next words i {last = 0} here made (ap op_code (sym w.last-is) ∙ m) (omega arith)).0)),
-    ))
- ]
+    elim c.if-last-word.branch [
+      | then-last-word w ↦ (
+          let both = and_both (is_m last) (is_m word) w.if-last-word.true in
+          let m = eqb-true (op_code last) 0 both.0 in
+          let m' = eqb-true (op_code word) 0 both.1 in
+          let longer : joined_word last word ≡ c.if-last-word.last = omega (arith, w.last-is) in (
+            done,
+            omega arith,
+            omega (arith, w.n-is),
+            c.loop-i.invariant.3 ∙ sym w.n-is,
+            w.output-is ∙ c.loop-i.invariant.4,
+            rw (w.if-last-word.true, longer) at with-next,
+            λ _. rw w.last-is (bases_next words i here made m' (c.loop-i.invariant.6 m)).0,
+          ))
+      | else-last-word w ↦ (
+          let n = c.loop-i.invariant.3 in (
+            done ++ (last ∷ []),
+            omega arith,
+            omega (arith, w.n-is),
+            length-append done (last ∷ []) ∙ omega (arith, w.n-is),
+            w.output-is ∙ rw (c.loop-i.invariant.4, ← n) (written_more done args.output.now last (omega (arith, fits (goal.at.loop-i-preserved c).At-loop-i))),
+            (rw w.if-last-word.false at with-next) ∙ rw w.last-is (sym (append_assoc done (last ∷ []) (word ∷ []))),
+            λ m. rw w.last-is (omega (arith, (bases_next words i {last = 0} here made (ap op_code (sym w.last-is) ∙ m) (omega arith)).0)),
+          ))
+    ]
 
 pub bounds-output-n-2 : goal.bounds-output-n-2
 bounds-output-n-2 c = room (goal.at.bounds-output-n-2 c).At-loop-i

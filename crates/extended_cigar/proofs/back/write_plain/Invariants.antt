@@ -1,23 +1,11 @@
 -- The words that are finished are written, and the one in hand is the last of what the words passed join to.
-use mathlib.Core.List.{List, [], ◌∷◌, ◌++◌, map, append_assoc}
-use mathlib.Core.Logic.{⊎_elim}
-use mathlib.Core.Path.{◌≡◌, refl, sym, ◌∙◌, ap}
-use Prim.Native.Nat.{ℕ, ◌+◌, ◌*◌, ◌-◌, ◌≤◌, ◌<◌}
-use native.Mathlib.Omega.{arith}
-use borrow.Author.Rules.{rules}
-use borrow.Author.Tests.{eqb-true}
-use lib.ListN.{length, take, get_or, length-append, length-set}
-use lib.Seq.{take-suc, take_all}
-use Rattle.lists.proofs.Cases.{and_both}
-use Rattle.lists.proofs.Written.{length-written, written_more}
-use Rattle.lists.specs.Total.{total}
+use mathlib.Core.List.{List, [], ◌∷◌, ◌++◌, map}
+use mathlib.Core.Path.{◌≡◌}
+use Prim.Native.Nat.{ℕ, ◌*◌, ◌-◌, ◌≤◌, ◌<◌}
+use lib.ListN.{length, take}
 use Rattle.lists.specs.Written.{written}
-use Rattle.raw_bam.specs.Cigar.{op_code, read_bases, read_length}
-use Rattle.raw_bam.specs.Simplified.{joined_word}
-use Rattle.extended_cigar.proofs.Accepted.{AcceptedBack, accepted_back}
-use Rattle.extended_cigar.proofs.More.{plain-next, plain_bases, bases_next}
-use Rattle.extended_cigar.specs.Extended.{is_m}
-use Rattle.extended_cigar.specs.Plain.{plain_word, prepend_m, joined_m, plain}
+use Rattle.raw_bam.specs.Cigar.{op_code, read_length}
+use Rattle.extended_cigar.specs.Plain.{plain_word, joined_m}
 use Rattle.extended_cigar.proofs.back.write_plain.Given as goal
 
 abbrev pub invariant-loop-i : goal.invariant-loop-i

@@ -1,12 +1,7 @@
 -- All words passed are allowed, so the words left decide.
-use mathlib.Core.Bool.{not}
-use mathlib.Core.Path.{◌≡◌, refl, sym, ◌∙◌, ap}
+use mathlib.Core.Path.{◌≡◌}
 use Prim.Native.Nat.{◌-◌, ◌≤◌}
-use native.Mathlib.Omega.{arith}
-use borrow.Author.Rules.{rules}
-use borrow.Author.Tests.{not-true, not-false}
 use lib.ListN.{length, drop}
-use Rattle.lists.proofs.Every.{every_fails, every-next, every-passed}
 use Rattle.lists.specs.Every.{every}
 use Rattle.extended_cigar.specs.Refusals.{allowed}
 use Rattle.extended_cigar.proofs.refusal.has_bad_word.Given as goal

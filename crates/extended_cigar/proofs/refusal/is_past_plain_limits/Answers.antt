@@ -1,5 +1,4 @@
 -- The number of words first, then the sums.
-use borrow.Author.Rules.{rules}
 use borrow.Author.Tests.{lt-ltb, le-ltb}
 use Rattle.extended_cigar.specs.Refusals.{past_plain_limits}
 use Rattle.extended_cigar.proofs.refusal.is_past_plain_limits.Goals as goal

@@ -1,5 +1,4 @@
 -- Lowest number first.
-use borrow.Author.Rules.{rules}
 use Rattle.extended_cigar.specs.Refusals.{bad_extended_words, refusal_back}
 use Rattle.extended_cigar.proofs.refusal.refuse_back.Goals as goal
 

@@ -1,5 +1,4 @@
 -- Lowest number first.
-use borrow.Author.Rules.{rules}
 use Rattle.extended_cigar.specs.Refusals.{bad_plain_words, refusal_there}
 use Rattle.extended_cigar.proofs.refusal.refuse_there.Goals as goal
 

@@ -1,10 +1,9 @@
 use mathlib.Core.Path.{◌≡◌, refl, ◌∙◌, ap}
-use Prim.Native.Nat.{◌+◌, ◌-◌, ◌≤◌, ◌<◌}
+use Prim.Native.Nat.{◌<◌}
 use native.Mathlib.Nat.{zero-add}
 use native.Mathlib.Omega.{arith}
-use borrow.Author.Rules.{rules}
 use lib.ListN.{length, take, get_or, length-append}
-use lib.Seq.{sets, length-sets, take_all}
+use lib.Seq.{length-sets, take_all}
 use Rattle.lists.specs.Total.{total}
 use Rattle.lists.proofs.Sets.{sets_append, sets_written}
 use Rattle.lists.proofs.Total.{total_more}

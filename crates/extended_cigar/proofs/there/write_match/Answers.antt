@@ -1,17 +1,13 @@
-use mathlib.Core.List.{List, [], ◌∷◌, ◌++◌, append_assoc}
-use mathlib.Core.Logic.{⊎_elim}
+use mathlib.Core.List.{[], ◌∷◌, ◌++◌, append_assoc}
 use mathlib.Core.Path.{◌≡◌, refl, sym, ◌∙◌, ap}
-use Prim.Native.Nat.{ℕ, ◌+◌, ◌*◌, ◌-◌, ◌≤◌, ◌<◌}
+use Prim.Native.Nat.{ℕ, ◌+◌}
 use native.Mathlib.Omega.{arith}
-use borrow.Author.Rules.{rules}
 use borrow.Author.Tests.{eq-eqb, ne_eqb}
-use lib.ListN.{length, length-append, length-set}
-use lib.Seq.{sets, length-sets}
+use lib.ListN.{length-append}
 use Rattle.lists.proofs.Sets.{sets_append}
 use Rattle.raw_bam.specs.Cigar.{op_code}
-use Rattle.raw_bam.specs.Simplified.{joined_word, joined}
+use Rattle.raw_bam.specs.Simplified.{joined_word}
 use Rattle.extended_cigar.proofs.More.{run_one, run_more}
-use Rattle.extended_cigar.specs.Extended.{base_by_base}
 use Rattle.extended_cigar.proofs.there.write_match.Goals as goal
 use Rattle.extended_cigar.proofs.there.write_match.Goals.{then-last-word, else-last-word}
 
@@ -28,29 +24,30 @@ loop-k-preserved c =
     let last = c.loop-k.last in
     let word = c.base_word-word.result in
     let with-next = run_more args.read.now args.reference.now args.at.read args.at.reference c.loop-k.k done last c.base_word-word.ensures.0 c.loop-k.invariant.5 in
-    elim c.if-last-word.branch [ then-last-word w ↦ (
-    let same = eq-eqb (op_code last) (op_code word) w.if-last-word.true in
-    let longer : joined_word last word ≡ c.if-last-word.last = omega (arith, w.last-is) in (
-      done,
-      omega arith,
-      omega (arith, w.n-is),
-      c.loop-k.invariant.3 ∙ sym w.n-is,
-      w.output-is ∙ c.loop-k.invariant.4,
-      rw (same, longer) at with-next,
-      omega (arith, w.last-is, c.base_word-word.ensures.1),
-    ))
-    | else-last-word w ↦ (
-    let differ = ne_eqb (op_code last) (op_code word) w.if-last-word.false in
-    let n = c.loop-k.invariant.3 in (
-      done ++ (last ∷ []),
-      omega arith,
-      rw (length-append done (last ∷ [])) (omega arith),
-      rw (length-append done (last ∷ [])) (omega (arith, w.n-is)),
-      w.output-is ∙ rw (c.loop-k.invariant.4, ← n) (sets_append args.output.now args.to done (last ∷ [])),
-      (rw differ at with-next) ∙ rw w.last-is (sym (append_assoc done (last ∷ []) (word ∷ []))),
-      omega (arith, w.last-is, c.base_word-word.ensures.1),
-    ))
- ]
+    elim c.if-last-word.branch [
+      | then-last-word w ↦ (
+          let same = eq-eqb (op_code last) (op_code word) w.if-last-word.true in
+          let longer : joined_word last word ≡ c.if-last-word.last = omega (arith, w.last-is) in (
+            done,
+            omega arith,
+            omega (arith, w.n-is),
+            c.loop-k.invariant.3 ∙ sym w.n-is,
+            w.output-is ∙ c.loop-k.invariant.4,
+            rw (same, longer) at with-next,
+            omega (arith, w.last-is, c.base_word-word.ensures.1),
+          ))
+      | else-last-word w ↦ (
+          let differ = ne_eqb (op_code last) (op_code word) w.if-last-word.false in
+          let n = c.loop-k.invariant.3 in (
+            done ++ (last ∷ []),
+            omega arith,
+            rw (length-append done (last ∷ [])) (omega arith),
+            rw (length-append done (last ∷ [])) (omega (arith, w.n-is)),
+            w.output-is ∙ rw (c.loop-k.invariant.4, ← n) (sets_append args.output.now args.to done (last ∷ [])),
+            (rw differ at with-next) ∙ rw w.last-is (sym (append_assoc done (last ∷ []) (word ∷ []))),
+            omega (arith, w.last-is, c.base_word-word.ensures.1),
+          ))
+    ]
 
 pub returns : goal.returns
 returns c =

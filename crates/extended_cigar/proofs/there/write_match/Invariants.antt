@@ -1,17 +1,10 @@
 -- The words that are finished are stored, and the one in hand is the last of what the bases passed join to.
-use mathlib.Core.List.{List, [], ◌∷◌, ◌++◌, append_assoc}
-use mathlib.Core.Logic.{⊎_elim}
-use mathlib.Core.Path.{◌≡◌, refl, sym, ◌∙◌, ap}
+use mathlib.Core.List.{List, [], ◌∷◌, ◌++◌}
+use mathlib.Core.Path.{◌≡◌}
 use Prim.Native.Nat.{ℕ, ◌+◌, ◌*◌, ◌-◌, ◌≤◌, ◌<◌}
-use native.Mathlib.Omega.{arith}
-use borrow.Author.Rules.{rules}
-use borrow.Author.Tests.{eq-eqb, ne_eqb}
-use lib.ListN.{length, length-append, length-set}
-use lib.Seq.{sets, length-sets}
-use Rattle.lists.proofs.Sets.{sets_append}
-use Rattle.raw_bam.specs.Cigar.{op_code}
-use Rattle.raw_bam.specs.Simplified.{joined_word, joined}
-use Rattle.extended_cigar.proofs.More.{run_one, run_more}
+use lib.ListN.{length}
+use lib.Seq.{sets}
+use Rattle.raw_bam.specs.Simplified.{joined}
 use Rattle.extended_cigar.specs.Extended.{base_by_base}
 use Rattle.extended_cigar.proofs.there.write_match.Given as goal
 

@@ -1,6 +1,5 @@
 -- An M consumes as many bases of both; any other operation is one word.
 use native.Mathlib.Omega.{arith}
-use borrow.Author.Rules.{rules}
 use borrow.Author.Tests.{eq-eqb, ne_eqb}
 use Rattle.raw_bam.specs.Cigar.{op_code}
 use Rattle.extended_cigar.proofs.WayThere.{read-M, reference_M}
