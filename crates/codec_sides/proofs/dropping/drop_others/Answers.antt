@@ -1,11 +1,9 @@
 -- The records that stay are those of the part, whatever the column has beyond it.
 use mathlib.Core.Path.{◌∙◌, ap}
-use native.Mathlib.Omega.{arith}
-use lib.ListN.{length, length-take}
-use Rattle.lists.proofs.Written.{length-written, take_count}
+use lib.ListN.{length}
+use Rattle.lists.proofs.Written.{take_count}
 use Rattle.codec_sides.specs.Side.{kept}
-use Rattle.codec_sides.proofs.Keeping.{kept-take, length-kept}
-use borrow.Author.Rules.{rules}
+use Rattle.codec_sides.proofs.Keeping.{kept-take}
 use Rattle.codec_sides.proofs.dropping.drop_others.Goals as goal
 
 pub returns-clause-fills : goal.returns-clause-fills

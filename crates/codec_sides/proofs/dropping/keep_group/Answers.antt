@@ -1,13 +1,12 @@
 -- The flags of the side are the first places of a local column.
 use mathlib.Core.Path.{◌≡◌, refl, sym, ◌∙◌, ap}
 use native.Mathlib.Omega.{arith}
-use Prim.Native.Nat.{◌≤◌, ◌<◌}
+use Prim.Native.Nat.{◌<◌}
 use lib.ListN.{length, take, length-take}
 use Rattle.lists.proofs.Written.{take_count}
 use Rattle.codec_sides.specs.Side.{in_group}
 use Rattle.codec_sides.proofs.Remaining.{length-in_group, few_kept, few_dropped}
 use Rattle.codec_sides.proofs.Keeping.{given_fate-none}
-use borrow.Author.Rules.{rules}
 use Rattle.codec_sides.proofs.dropping.keep_group.Goals as goal
 use Rattle.codec_sides.proofs.dropping.keep_group.Goals.{After-filter_to_most_common_alignment_raw}
 

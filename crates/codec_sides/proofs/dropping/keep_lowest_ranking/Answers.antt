@@ -1,12 +1,10 @@
 -- Without a cap nothing changes; with one, the flags of the side are the first places of a local column.
 use mathlib.Core.Path.{◌≡◌, refl, sym, ◌∙◌, ap}
-use Prim.Native.Nat.{◌≤◌}
 use native.Mathlib.Omega.{arith}
 use lib.ListN.{length, take, length-take}
 use Rattle.lists.proofs.Written.{take_count}
 use Rattle.codec_sides.specs.Side.{under_cap, capped, with_excess}
 use Rattle.codec_sides.proofs.Remaining.{length-under_cap}
-use borrow.Author.Rules.{rules}
 use borrow.Author.Tests.{not-true, not-false}
 use Rattle.codec_sides.proofs.dropping.keep_lowest_ranking.Goals as goal
 use Rattle.codec_sides.proofs.dropping.keep_lowest_ranking.Goals.{After-cap_infos_to_lowest_ranking}

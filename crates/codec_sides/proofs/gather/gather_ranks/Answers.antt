@@ -1,14 +1,8 @@
-use mathlib.Core.Path.{◌≡◌, refl}
-use Prim.Native.Nat.{◌-◌, ◌≤◌}
 use native.Mathlib.Omega.{arith}
-use borrow.Author.Rules.{rules, sfits_of}
+use borrow.Author.Rules.{rules}
 use lib.IntN.{pos}
-use lib.ListN.{length, get_or, take}
-use lib.Seq.{take_all}
-use mir.Facts.{to_z-of_z}
-use Rattle.lists.specs.Written.{written}
-use Rattle.lists.proofs.Map.{written-map_put, length-written-map}
-use Rattle.codec_sides.specs.Side.{gathered}
+use lib.ListN.{get_or}
+use Rattle.lists.proofs.Map.{written-map_put}
 use Rattle.codec_sides.proofs.gather.gather_ranks.Goals as goal
 
 pub loop-k-preserved : goal.loop-k-preserved

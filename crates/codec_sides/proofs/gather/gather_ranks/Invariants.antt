@@ -1,14 +1,9 @@
 -- The entries of the records before place k are written.
-use mathlib.Core.Path.{◌≡◌, refl}
+use mathlib.Core.Path.{◌≡◌}
 use Prim.Native.Nat.{◌-◌, ◌≤◌}
-use native.Mathlib.Omega.{arith}
-use borrow.Author.Rules.{rules, sfits_of}
 use lib.IntN.{pos}
-use lib.ListN.{length, get_or, take}
-use lib.Seq.{take_all}
-use mir.Facts.{to_z-of_z}
+use lib.ListN.{length, take}
 use Rattle.lists.specs.Written.{written}
-use Rattle.lists.proofs.Map.{written-map_put, length-written-map}
 use Rattle.codec_sides.specs.Side.{gathered}
 use Rattle.codec_sides.proofs.gather.gather_ranks.Given as goal
 

@@ -1,14 +1,10 @@
 use mathlib.Core.Bool.{false}
-use mathlib.Core.Path.{◌≡◌, refl, sym, ◌∙◌}
-use Prim.Native.Nat.{◌-◌, ◌≤◌}
+use mathlib.Core.Path.{sym, ◌∙◌}
 use native.Mathlib.Omega.{arith}
-use borrow.Author.Rules.{rules}
-use lib.ListN.{length, get_or, take, get_or-map}
-use lib.Seq.{take_all}
-use Rattle.lists.specs.Written.{written}
-use Rattle.lists.proofs.Map.{written-map_put, length-written-map}
+use lib.ListN.{get_or, get_or-map}
+use Rattle.lists.proofs.Map.{written-map_put}
 use Rattle.raw_bam.specs.Flags.{reverse_flag, has_flag}
-use Rattle.codec_sides.specs.Side.{gathered, orientations}
+use Rattle.codec_sides.specs.Side.{orientations}
 use Rattle.codec_sides.proofs.gather.gather_reverse.Goals as goal
 
 pub loop-k-preserved : goal.loop-k-preserved

@@ -1,14 +1,9 @@
 -- The entries of the records before place k are written.
 use mathlib.Core.Bool.{false}
-use mathlib.Core.Path.{◌≡◌, refl, sym, ◌∙◌}
+use mathlib.Core.Path.{◌≡◌}
 use Prim.Native.Nat.{◌-◌, ◌≤◌}
-use native.Mathlib.Omega.{arith}
-use borrow.Author.Rules.{rules}
-use lib.ListN.{length, get_or, take, get_or-map}
-use lib.Seq.{take_all}
+use lib.ListN.{length, take}
 use Rattle.lists.specs.Written.{written}
-use Rattle.lists.proofs.Map.{written-map_put, length-written-map}
-use Rattle.raw_bam.specs.Flags.{reverse_flag, has_flag}
 use Rattle.codec_sides.specs.Side.{gathered, orientations}
 use Rattle.codec_sides.proofs.gather.gather_reverse.Given as goal
 

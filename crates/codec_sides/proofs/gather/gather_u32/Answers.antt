@@ -1,12 +1,7 @@
-use mathlib.Core.Path.{◌≡◌, refl}
-use Prim.Native.Nat.{◌-◌, ◌≤◌}
+use mathlib.Core.Path.{refl}
 use native.Mathlib.Omega.{arith}
-use borrow.Author.Rules.{rules}
-use lib.ListN.{length, get_or, take}
-use lib.Seq.{take_all}
-use Rattle.lists.specs.Written.{written}
-use Rattle.lists.proofs.Map.{written-map_put, length-written-map}
-use Rattle.codec_sides.specs.Side.{gathered}
+use lib.ListN.{get_or}
+use Rattle.lists.proofs.Map.{written-map_put}
 use Rattle.codec_sides.proofs.gather.gather_u32.Goals as goal
 
 pub loop-k-preserved : goal.loop-k-preserved

@@ -1,12 +1,8 @@
 -- The entries of the records before place k are written.
-use mathlib.Core.Path.{◌≡◌, refl}
+use mathlib.Core.Path.{◌≡◌}
 use Prim.Native.Nat.{◌-◌, ◌≤◌}
-use native.Mathlib.Omega.{arith}
-use borrow.Author.Rules.{rules}
-use lib.ListN.{length, get_or, take}
-use lib.Seq.{take_all}
+use lib.ListN.{length, take}
 use Rattle.lists.specs.Written.{written}
-use Rattle.lists.proofs.Map.{written-map_put, length-written-map}
 use Rattle.codec_sides.specs.Side.{gathered}
 use Rattle.codec_sides.proofs.gather.gather_u32.Given as goal
 

@@ -1,11 +1,8 @@
-use mathlib.Core.Logic.{⊎_elim}
 use mathlib.Core.Path.{◌≡◌, sym}
-use Prim.Native.Nat.{ℕ, ◌-◌, ◌≤◌}
 use native.Mathlib.Omega.{arith}
-use borrow.Author.Rules.{rules}
-use lib.ListN.{length, get_or}
+use lib.ListN.{length}
 use Rattle.codec_sides.specs.Side.{reference_bases_of, longest_of}
-use Rattle.codec_sides.proofs.Most.{Leads, leads_new, leads_still, leads-map}
+use Rattle.codec_sides.proofs.Most.{leads-map}
 use Rattle.codec_sides.proofs.longest.longest_of.Goals as goal
 
 pub returns-clause-value : goal.returns-clause-value

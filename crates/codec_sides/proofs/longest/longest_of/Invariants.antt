@@ -1,12 +1,9 @@
 -- The longest of the records before place k, with its reference bases.
-use mathlib.Core.Logic.{⊎_elim}
-use mathlib.Core.Path.{◌≡◌, sym}
-use Prim.Native.Nat.{ℕ, ◌-◌, ◌≤◌}
-use native.Mathlib.Omega.{arith}
-use borrow.Author.Rules.{rules}
+use mathlib.Core.Path.{◌≡◌}
+use Prim.Native.Nat.{◌-◌, ◌≤◌}
 use lib.ListN.{length, get_or}
-use Rattle.codec_sides.specs.Side.{reference_bases_of, longest_of}
-use Rattle.codec_sides.proofs.Most.{Leads, leads_new, leads_still, leads-map}
+use Rattle.codec_sides.specs.Side.{reference_bases_of}
+use Rattle.codec_sides.proofs.Most.{Leads}
 use Rattle.codec_sides.proofs.longest.longest_of.Given as goal
 
 abbrev pub invariant-loop-k : goal.invariant-loop-k

@@ -1,10 +1,7 @@
 -- The reference bases of the record's part.
 use mathlib.Core.Path.{◌∙◌, ap}
-use native.Mathlib.Omega.{arith}
-use lib.ListN.{length-take}
 use Rattle.raw_bam.specs.Cigar.{reference_length}
 use Rattle.codec_sides.specs.Side.{reference_bases_of}
-use borrow.Author.Rules.{rules}
 use Rattle.codec_sides.proofs.longest.reference_bases_of.Goals as goal
 
 pub returns : goal.returns

@@ -1,10 +1,9 @@
 -- The first places of the local column are the ranks of the side's records.
-use mathlib.Core.Path.{◌≡◌, sym}
+use mathlib.Core.Path.{◌≡◌}
 use lib.IntN.{pos}
 use lib.ListN.{length, take}
 use Rattle.codec_sides.specs.Side.{gathered, under_cap}
-use Rattle.codec_sides.proofs.Gathered.{length-gathered, take-gathered}
-use borrow.Author.Rules.{rules}
+use Rattle.codec_sides.proofs.Gathered.{take-gathered}
 use Rattle.codec_sides.proofs.staying.cap_infos_to_lowest_ranking.Goals as goal
 use Rattle.codec_sides.proofs.staying.cap_infos_to_lowest_ranking.Goals.{After-gather_ranks}
 

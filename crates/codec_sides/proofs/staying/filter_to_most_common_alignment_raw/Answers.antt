@@ -1,13 +1,12 @@
 use mathlib.Core.Bool.{false}
 use mathlib.Core.List.{List}
-use mathlib.Core.Path.{◌≡◌, sym, ◌∙◌, ap, fun_ext}
+use mathlib.Core.Path.{◌≡◌, ◌∙◌, ap, fun_ext}
 use Prim.Native.Nat.{ℕ}
 use lib.ListN.{length, take}
 use Rattle.lists.specs.Written.{written}
 use Rattle.vanilla_caller.specs.Group.{staying}
 use Rattle.codec_sides.specs.Side.{gathered, orientations, in_group}
 use Rattle.codec_sides.proofs.Gathered.{length-gathered, take-gathered, list_gathered, has_gathered}
-use borrow.Author.Rules.{rules}
 use Rattle.codec_sides.proofs.staying.filter_to_most_common_alignment_raw.Goals as goal
 use Rattle.codec_sides.proofs.staying.filter_to_most_common_alignment_raw.Goals.{After-gather_reverse, After-gather_u32, After-gather_u32-2, After-gather_u32-3}
 

@@ -1,17 +1,10 @@
 -- A fate for the records from place k on that do not stay gives what a fate for all of them gives.
-use mathlib.Core.Bool.{false, not}
-use mathlib.Core.List.{List, [], map}
-use mathlib.Core.Logic.{⊎_elim}
-use mathlib.Core.Path.{◌≡◌, refl, sym, ◌∙◌, ap}
-use Prim.Native.Nat.{ℕ, ◌-◌, ◌≤◌, ◌<◌}
-use native.Mathlib.Omega.{arith}
-use borrow.Author.Rules.{rules}
-use lib.ListN.{length, get_or, set, drop, length-map, length-set}
-use lib.Seq.{drop-length}
-use Rattle.lists.proofs.Map.{get_d-map-within}
-use Rattle.caller.specs.Fates.{undecided_number, first_fate}
+use mathlib.Core.Bool.{not}
+use mathlib.Core.List.{map}
+use mathlib.Core.Path.{◌≡◌}
+use Prim.Native.Nat.{◌-◌, ◌≤◌}
+use lib.ListN.{length, drop}
 use Rattle.codec_sides.specs.Side.{kept, dropped, given_fate}
-use Rattle.codec_sides.proofs.Keeping.{kept_yes, kept_no, given_fate-none, given_fate_more}
 use Rattle.codec_sides.proofs.staying.give_fate_to_dropped.Given as goal
 
 abbrev pub invariant-loop-k : goal.invariant-loop-k

@@ -1,13 +1,10 @@
 use mathlib.Core.List.{List, [], ◌∷◌, ◌++◌, append_assoc, append-nil}
-use mathlib.Core.Logic.{⊎_elim}
-use mathlib.Core.Path.{◌≡◌, refl, sym, ◌∙◌, ap}
-use Prim.Native.Nat.{ℕ, ◌+◌, ◌-◌, ◌≤◌}
+use mathlib.Core.Path.{◌≡◌, sym, ◌∙◌, ap}
+use Prim.Native.Nat.{ℕ}
 use native.Mathlib.Omega.{arith}
-use borrow.Author.Rules.{rules}
 use lib.ListN.{length, get_or, drop, length-append}
 use lib.Seq.{drop-length}
-use Rattle.lists.specs.Written.{written}
-use Rattle.lists.proofs.Written.{length-written, written_more, get_d-written_beyond}
+use Rattle.lists.proofs.Written.{written_more, get_d-written_beyond}
 use Rattle.codec_sides.specs.Side.{kept}
 use Rattle.codec_sides.proofs.Keeping.{kept_yes, kept_no, kept-none}
 use Rattle.codec_sides.proofs.staying.keep_staying.Goals as goal
@@ -29,20 +26,21 @@ loop-k-preserved c =
     let k = c.loop-k.k in
     let done = c.loop-k.invariant.0 in
     let own = get_or side k 0 in
-    elim c.if-stays-k.branch [ then-stays-k w ↦ (
-    let found = kept_yes side stays k (omega (arith, c.requires)) (omega arith) w.if-stays-k.true in
-    let read : get_or c.loop-k.side k 0 ≡ own = ap (λ (l : List ℕ). get_or l k 0) c.loop-k.invariant.5 ∙ get_d-written_beyond done side k 0 (omega arith) in (
-      done ++ (own ∷ []),
-      omega arith,
-      append_assoc done (own ∷ []) _ ∙ ap (λ (l : List ℕ). done ++ l) (sym found) ∙ c.loop-k.invariant.2,
-      w.count-is ∙ rw c.loop-k.invariant.3 (sym (length-append done (own ∷ []))),
-      omega (arith, w.count-is),
-      w.side-is ∙ rw (read, c.loop-k.invariant.5, c.loop-k.invariant.3) (written_more done side own (omega (arith, c.requires))),
-    ))
-    | else-stays-k w ↦ (
-    let passed = kept_no side stays k (omega (arith, c.requires)) (omega arith) w.if-stays-k.false in
-    (done, omega arith, ap (λ (l : List ℕ). done ++ l) (sym passed) ∙ c.loop-k.invariant.2, w.count-is ∙ c.loop-k.invariant.3, omega (arith, w.count-is), w.side-is ∙ c.loop-k.invariant.5))
- ]
+    elim c.if-stays-k.branch [
+      | then-stays-k w ↦ (
+          let found = kept_yes side stays k (omega (arith, c.requires)) (omega arith) w.if-stays-k.true in
+          let read : get_or c.loop-k.side k 0 ≡ own = ap (λ (l : List ℕ). get_or l k 0) c.loop-k.invariant.5 ∙ get_d-written_beyond done side k 0 (omega arith) in (
+            done ++ (own ∷ []),
+            omega arith,
+            append_assoc done (own ∷ []) _ ∙ ap (λ (l : List ℕ). done ++ l) (sym found) ∙ c.loop-k.invariant.2,
+            w.count-is ∙ rw c.loop-k.invariant.3 (sym (length-append done (own ∷ []))),
+            omega (arith, w.count-is),
+            w.side-is ∙ rw (read, c.loop-k.invariant.5, c.loop-k.invariant.3) (written_more done side own (omega (arith, c.requires))),
+          ))
+      | else-stays-k w ↦ (
+          let passed = kept_no side stays k (omega (arith, c.requires)) (omega arith) w.if-stays-k.false in
+          (done, omega arith, ap (λ (l : List ℕ). done ++ l) (sym passed) ∙ c.loop-k.invariant.2, w.count-is ∙ c.loop-k.invariant.3, omega (arith, w.count-is), w.side-is ∙ c.loop-k.invariant.5))
+    ]
 
 pub returns-clause-value : goal.returns-clause-value
 returns-clause-value c = c.loop-k.invariant.3 ∙ ap length (all_kept (goal.at.returns-clause-value c).At-loop-k (omega arith))

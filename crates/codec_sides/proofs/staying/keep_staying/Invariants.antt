@@ -1,16 +1,10 @@
 -- The records before place k that stay are at the front, and with those still to come they are all that stay.
-use mathlib.Core.List.{List, [], ◌∷◌, ◌++◌, append_assoc, append-nil}
-use mathlib.Core.Logic.{⊎_elim}
-use mathlib.Core.Path.{◌≡◌, refl, sym, ◌∙◌, ap}
-use Prim.Native.Nat.{ℕ, ◌+◌, ◌-◌, ◌≤◌}
-use native.Mathlib.Omega.{arith}
-use borrow.Author.Rules.{rules}
-use lib.ListN.{length, get_or, drop, length-append}
-use lib.Seq.{drop-length}
+use mathlib.Core.List.{List, ◌++◌}
+use mathlib.Core.Path.{◌≡◌}
+use Prim.Native.Nat.{ℕ, ◌-◌, ◌≤◌}
+use lib.ListN.{length, drop}
 use Rattle.lists.specs.Written.{written}
-use Rattle.lists.proofs.Written.{length-written, written_more, get_d-written_beyond}
 use Rattle.codec_sides.specs.Side.{kept}
-use Rattle.codec_sides.proofs.Keeping.{kept_yes, kept_no, kept-none}
 use Rattle.codec_sides.proofs.staying.keep_staying.Given as goal
 
 abbrev pub invariant-loop-k : goal.invariant-loop-k
