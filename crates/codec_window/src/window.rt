@@ -213,6 +213,7 @@ fn dovetail_if(length: ConsensusLength) -> RejectionReason
 }
 
 // In legacy, a pair that the true window would have kept is rejected only because it dovetails.
+#[tactic(auto, unfolding(crate::specs::Window::reason_without_length))]
 fn reason_without_length(
     r1_ops: &[u32],
     r1: Aligned,
