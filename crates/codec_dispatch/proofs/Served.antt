@@ -233,4 +233,5 @@ turns_count (then {d} {call} {calls} {answers} rest) h = call_counts d call call
 pub served_within_eight_calls : (d : Dispatcher) (calls : List Call) (lane : ℕ) → d.last ≤ 7 → lane ≤ 7 → waits d lane ≡ true → 8 ≤ turns_in calls
     → is_served lane (take 8 (turns_of (answers_of d calls))) ≡ true
 served_within_eight_calls d calls lane h l w enough =
-    served_within_eight lane (chain_of d calls) l w (omega (arith, turns_count (chain_of d calls) h))
+    served_more lane (turns_of (answers_of d calls)) (distance d lane + 1) 8 (omega arith)
+    (served_in_time lane (chain_of d calls) l w (omega (arith, turns_count (chain_of d calls) h)))
