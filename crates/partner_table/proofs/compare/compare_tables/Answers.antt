@@ -1,0 +1,23 @@
+use mathlib.Core.Path.{◌≡◌, sym, ◌∙◌, ap}
+use borrow.Author.Rules.{rules}
+use Rattle.codec_duplex.specs.declared.position.Position.{Position}
+use Rattle.table_text.specs.InputTable.{Reading, table_of, InputNames}
+use Rattle.table_text.specs.OutputReading.{partner_table, PartnerNames}
+use Rattle.table_text.specs.Reading.{Table}
+use Rattle.table_text.specs.declared.reading.Names.TheVariants.{Until}
+use Rattle.partner_table.specs.Check.{first_wrong, combined_rows, compared}
+use Rattle.partner_table.proofs.Lines.{none_ours, none_theirs, lines_unequal, lines_equal}
+use Rattle.partner_table.proofs.compare.compare_tables.Goals as goal
+
+same_rows : (t u : Reading) (p q : Table Position) → t ≡ u → p ≡ q → first_wrong 2 (combined_rows t.rows) p.rows ≡ first_wrong 2 (combined_rows u.rows) q.rows
+same_rows t u p q e f = rw (e, f)
+
+pub returns-then-ended_parts : goal.returns-then-ended_parts
+returns-then-ended_parts c = sym (lines_unequal c.args.ours.now c.args.theirs.now c.requires.0 c.requires.1 (λ e. c.if-ended_parts.true (c.ended_parts.ensures ∙ e ∙ sym c.ended_parts-2.ensures)))
+
+pub returns : goal.returns
+returns c =
+    let counted = lines_equal c.args.ours.now c.args.theirs.now c.requires.0 c.requires.1 (sym c.ended_parts.ensures ∙ c.if-ended_parts.false ∙ c.ended_parts-2.ensures) in
+    let our_names = rw c.in-Until.is at c.after_names.ensures in
+    let their_names = rw c.in-Until-after_names.is at c.after_names-2.ensures in
+    c.compare_lines.ensures ∙ sym (counted ∙ same_rows _ _ _ _ our_names.1 their_names.1)
