@@ -1,4 +1,5 @@
 pub mod Accepting
+pub mod Checks
 pub mod Digits
 pub mod Exactly
 pub mod InRange

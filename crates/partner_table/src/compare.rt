@@ -103,6 +103,7 @@ fn compare_tables(ours: &[u8], theirs: &[u8]) -> Answer
 }
 
 // Whether their output table is what the position rules give for our input table.
+#[tactic(auto, using(crate::proofs::Checks::ours_malformed, crate::proofs::Checks::theirs_malformed, crate::proofs::Checks::both_formed))]
 pub fn check_tables(ours: &[u8], theirs: &[u8]) -> Answer
     ensures { result ≡ checked ours.now theirs.now }
 {

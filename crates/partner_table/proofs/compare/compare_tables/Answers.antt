@@ -1,12 +1,9 @@
-use mathlib.Core.Path.{◌≡◌, sym, ◌∙◌, ap}
-use borrow.Author.Rules.{rules}
+use mathlib.Core.Path.{◌≡◌, sym, ◌∙◌}
 use Rattle.codec_duplex.specs.declared.position.Position.{Position}
-use Rattle.table_text.specs.InputTable.{Reading, table_of, InputNames}
-use Rattle.table_text.specs.OutputReading.{partner_table, PartnerNames}
+use Rattle.table_text.specs.InputTable.{Reading}
 use Rattle.table_text.specs.Reading.{Table}
-use Rattle.table_text.specs.declared.reading.Names.TheVariants.{Until}
-use Rattle.partner_table.specs.Check.{first_wrong, combined_rows, compared}
-use Rattle.partner_table.proofs.Lines.{none_ours, none_theirs, lines_unequal, lines_equal}
+use Rattle.partner_table.specs.Check.{first_wrong, combined_rows}
+use Rattle.partner_table.proofs.Lines.{lines_unequal, lines_equal}
 use Rattle.partner_table.proofs.compare.compare_tables.Goals as goal
 
 same_rows : (t u : Reading) (p q : Table Position) → t ≡ u → p ≡ q → first_wrong 2 (combined_rows t.rows) p.rows ≡ first_wrong 2 (combined_rows u.rows) q.rows

@@ -1,0 +1,22 @@
+-- What is answered of two tables, by the first malformed line of each.
+use mathlib.Core.List.{List}
+use mathlib.Core.Path.{◌≡◌}
+use Prim.Native.Nat.{ℕ}
+use Rattle.table_text.specs.InputTable.{table_of}
+use Rattle.table_text.specs.OutputReading.{partner_table}
+use Rattle.table_text.specs.declared.reading.Checked.TheVariants as table
+use Rattle.partner_table.specs.Check.{checked, compared, WellFormed}
+use Rattle.partner_table.specs.declared.compare.Answer.TheVariants.{Refused}
+
+module _ (ours theirs : List ℕ) (line : ℕ) where
+  pub ours_malformed : (table_of ours).ending ≡ table.Malformed line → Refused 27 line 1 ≡ checked ours theirs
+  unfolding checked
+  ours_malformed e = rw e
+
+  pub theirs_malformed : WellFormed (table_of ours) → (partner_table theirs).ending ≡ table.Malformed line → Refused 27 line 2 ≡ checked ours theirs
+  unfolding checked
+  theirs_malformed formed e = rw (formed, e)
+
+pub both_formed : (ours theirs : List ℕ) → WellFormed (table_of ours) → WellFormed (partner_table theirs) → compared (table_of ours).rows (partner_table theirs).rows ≡ checked ours theirs
+unfolding checked
+both_formed ours theirs formed partner_formed = rw (formed, partner_formed)
