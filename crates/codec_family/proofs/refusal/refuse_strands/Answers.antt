@@ -1,0 +1,7 @@
+use Rattle.codec_family.specs.Refusals.{of_strands}
+use borrow.Author.Rules.{rules}
+use Rattle.codec_family.proofs.refusal.refuse_strands.Goals as goal
+
+pub returns : goal.returns
+unfolding of_strands
+returns c = cc
