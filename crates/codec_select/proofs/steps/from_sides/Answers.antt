@@ -161,7 +161,7 @@ returns c =
     let r1 = grouped_fills (all at) (r1_fills at) _ _ c.keep_group-n1.ensures.fills in
     let r2 = grouped_fills (all at) (r2_fills at) _ _ c.keep_group-n2.ensures.fills in
     let fates =
-        grouped_fates (all at) (r2_fills at) _ _ c.keep_group-n2.ensures.fates_after
-        ∙ ap (with_minority (all at) (r2-of at)) (grouped_fates (all at) (r1_fills at) _ _ c.keep_group-n1.ensures.fates_after)
-        in
+    grouped_fates (all at) (r2_fills at) _ _ c.keep_group-n2.ensures.fates_after
+    ∙ ap (with_minority (all at) (r2-of at)) (grouped_fates (all at) (r1_fills at) _ _ c.keep_group-n1.ensures.fates_after)
+    in
     rw (some, enough) (rw (r1.front, r2.front, fates) at c.from_cap.ensures)
