@@ -108,7 +108,7 @@ module _ (n : ℕ) where
   ledgers_left : (before : Handed) (p : Parts) → line_count p ≤ n → Gives (λ _ rest. line_count rest ≤ n) (ledgers_from before p)
   unfolding ledgers_from line_count
   ledgers_left before (last text) h = value h
-  ledgers_left before (ended text more) h = go (setting_of before text).told (ledgers_from (setting_of before text).handed more) (ledgers_left _ more (omega arith))
+  ledgers_left before (ended text more) h = go (setting_of before text).told (ledgers_from (setting_of before text).handed more) (ledgers_left (setting_of before text).handed more (omega arith))
     where
       go : (t : Told) (r : Reading Handed) → Gives (λ _ rest. line_count rest ≤ n) r → Gives (λ _ rest. line_count rest ≤ n) (by_told t r (wrong (ended text more)) (got before (ended text more)))
       go Set r l = l
