@@ -6,7 +6,7 @@ use Prim.Native.Nat.{ℕ, ◌≤◌}
 use native.Mathlib.Omega.{arith}
 use borrow.Author.Tests.{ltb-false, leb-true, eqb-true, not-false}
 use lib.Dec.{eqb, leb, ltb}
-use lib.ListN.{length, take, length-map}
+use lib.ListN.{length, take}
 use mir.Val.{Val}
 use denote.Laws.{Is}
 use Rattle.lists.specs.Written.{written}
@@ -53,7 +53,7 @@ use Rattle.codec_caller.specs.contracts.choosing.Chosen as Ch
 
 -- a chosen array of fates has 512 places
 pub fates_places : (c : Chosen) (vs : List Val) → Is Ch.the_row c vs → length c.fates ≡ 512
-fates_places c vs is = sym (length-map c.fates (λ x. x)) ∙ is.1.1.1.0.1.0.1
+fates_places c vs is = is.1.1.1.0.1.0.1
 
 -- the fates of as many records as are taken
 pub selected_front : (o : Options) (len n : ℕ) (rs : List Record) (ops : List ℕ) (d : Decision) (own : List ℕ) → n ≡ cond (ltb 512 len) 0 len → Selected o len rs ops d (take (cond (ltb 512 len) 0 len) own) → Selected o len rs ops d (take n own)
@@ -218,8 +218,8 @@ module _ (len : ℕ) (o : Options) (has_r1 : Bool) (r1 : Strand) (has_r2 : Bool)
       pub framable : is_called v.ending ≡ true → Framable (frame_of d) r1 r2 lent.duplex lent.r1 lent.r2
       framable e =
           let fits = called_fits call (sym (ap is_called ending_of) ∙ e) in
-          let r1-alike : bad_columns (widths_of r1) ≡ false = rw fits.has-r1 at columns_stand.0 in
-          let r2-alike : bad_columns (widths_of r2) ≡ false = rw fits.has-r2 at columns_stand.1 in
+          let r1-alike : bad_columns (widths_of r1) ≡ false = rw fits.has_r1_lem at columns_stand.0 in
+          let r2-alike : bad_columns (widths_of r2) ≡ false = rw fits.has_r2_lem at columns_stand.1 in
           let same : (frame_of d).length ≡ (frame call).length = ap (λ (x : Decision). (frame_of x).length) decided in
           record {
             r1 = within (frame_of d).length r1 (rw same fits.r1_fits) r1-alike;
