@@ -1,5 +1,5 @@
 -- Document 01, demand 3, the conservation rule: one claim about every list of family calls.
-use mathlib.Core.Bool.{Bool, true, false, cond, not, false≢true}
+use mathlib.Core.Bool.{Bool, true, false, cond, not}
 use mathlib.Core.List.{List, [], ◌∷◌}
 use mathlib.Core.Path.{◌≡◌, refl, sym, ◌∙◌, ap}
 use Prim.Native.Nat.{ℕ, ◌+◌, ◌≤◌}
@@ -12,7 +12,7 @@ use Rattle.codec_duplex.specs.Tally.{both_call, disagree}
 use Rattle.codec_stats.specs.Ledger.{fresh, figures, counter, filtered, plus}
 use Rattle.codec_stats.specs.declared.ledger.Ledger.{Ledger}
 use Rattle.codec_stats.proofs.Adding.{plus_ten, counter-fresh, counter-plus, filtered-fresh, filtered-plus}
-use Rattle.codec_conservation.specs.Chain.{Made, Handed, ChainFrom, Chain, last_from, last_ledger, calls_of, unrefused, duplexes, disagreeing, Each}
+use Rattle.codec_conservation.specs.Chain.{Made, ChainFrom, Chain, last_from, calls_of, unrefused, duplexes, disagreeing, Each}
 use Rattle.codec_conservation.specs.Conserved.{Marked, first_bases, second_bases, Claims, Conserved}
 use Rattle.codec_framing.specs.Framing.{tally_of}
 use Rattle.codec_rejects.specs.Fates.{with_fate}

@@ -1,11 +1,11 @@
 -- What follows from the contract: from a fresh ledger refusal 10 never comes.
-use mathlib.Core.Bool.{Bool, true, false, cond, not, ◌&&◌, ◌||◌, false≢true}
-use mathlib.Core.List.{List, [], ◌∷◌, ◌++◌}
+use mathlib.Core.Bool.{Bool, true, false, not, ◌&&◌, ◌||◌, false≢true}
+use mathlib.Core.List.{List, [], ◌∷◌}
 use mathlib.Core.Path.{◌≡◌, refl, sym, ◌∙◌, ap}
 use Prim.Native.Nat.{ℕ, ◌+◌, ◌*◌, ◌≤◌, ◌<◌}
 use native.Mathlib.Omega.{arith}
 use borrow.Author.Tests.{eqb-false, le-leb, le-ltb}
-use lib.Dec.{eqb, leb, ltb}
+use lib.Dec.{leb, ltb}
 use lib.ListN.{length, get_or}
 use Rattle.lists.specs.Every.{every}
 use Rattle.lists.specs.Numbers.{numbers_from}
@@ -23,7 +23,7 @@ use Rattle.codec_select.specs.Alignments.{alignments_of}
 use Rattle.codec_records.specs.Records.{column}
 use Rattle.codec_select.specs.Steps.{fates_of}
 use Rattle.codec_records.specs.declared.records.Record.{Record}
-use Rattle.codec_stats.specs.Ledger.{fresh, record_counters, other_counts, within_limit, too_large, full, of_counts, plus}
+use Rattle.codec_stats.specs.Ledger.{fresh, record_counters, other_counts, too_large, full, of_counts, plus}
 use Rattle.codec_stats.specs.declared.ledger.Ledger.{Ledger}
 use Rattle.codec_family.specs.Answer.{reported, says_refused, refused_number}
 use Rattle.codec_family.specs.Call.{Call, widths_of}

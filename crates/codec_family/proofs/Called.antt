@@ -1,5 +1,5 @@
 -- A family that is called: its strands fit its length, which is at most 2,047.
-use mathlib.Core.Bool.{Bool, true, false, cond, not, ◌&&◌, ◌||◌, false≢true}
+use mathlib.Core.Bool.{Bool, true, false, cond, false≢true}
 use mathlib.Core.List.{List}
 use mathlib.Core.Path.{◌≡◌, refl, sym, ◌∙◌, ap}
 use Prim.Native.Nat.{ℕ, ◌≤◌}
@@ -8,7 +8,7 @@ use borrow.Author.Tests.{ltb-false}
 use lib.Dec.{ltb}
 use lib.ListN.{length}
 use Rattle.lists.specs.Count.{count_below}
-use Rattle.lists.proofs.Cases.{cond_cases, or_neither}
+use Rattle.lists.proofs.Cases.{or_neither}
 use Rattle.caller.specs.Refusals.{is_refusal}
 use Rattle.caller.specs.declared.reason.RejectionReason.TheVariants.{ClipOverlapFailed}
 use Rattle.codec_duplex.specs.Columns.{Strand}

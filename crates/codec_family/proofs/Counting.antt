@@ -27,7 +27,7 @@ use Rattle.codec_stats.specs.Ledger.{counter, filtered, too_large, Addable}
 use Rattle.codec_stats.specs.declared.ledger.Ledger.{Ledger}
 use Rattle.codec_family.specs.Call.{Call}
 use Rattle.codec_family.specs.Counted.{ended_by_disagreement, counted_by, counted}
-use Rattle.codec_family.specs.Ending.{is_called, called_length, frame, tally, ending}
+use Rattle.codec_family.specs.Ending.{is_called, frame, tally, ending}
 use Rattle.codec_family.specs.Fates.{fates, Fated}
 use Rattle.codec_family.specs.Refusals.{of_records}
 use Rattle.codec_family.specs.declared.ending.Ending.{Ending}

@@ -1,6 +1,6 @@
 -- What a refusal comes to: nothing is written, and the ledger is the one that was handed over.
 use mathlib.Core.Bool.{Bool, true, false, cond}
-use mathlib.Core.List.{List, []}
+use mathlib.Core.List.{List}
 use mathlib.Core.Path.{◌≡◌, refl}
 use Prim.Native.Nat.{ℕ}
 use Rattle.lists.specs.Written.{written}

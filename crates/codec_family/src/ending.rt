@@ -138,6 +138,7 @@ fn judge_strands(options: Options, frame: Frame, r1_bases: &[u8], r2_bases: &[u8
 }
 
 // Steps 8 and 9 of a family that step 7 leaves.
+#[tactic(auto, unfolding(crate::specs::Ending::from_strands))]
 fn from_strands(
     options: Options,
     frame: Frame,

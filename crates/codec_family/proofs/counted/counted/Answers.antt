@@ -1,6 +1,5 @@
 use Rattle.lists.specs.Tabulate.{tabulate}
 use Rattle.codec_family.specs.Counted.{counted_by}
-use borrow.Author.Rules.{rules}
 use Rattle.codec_family.proofs.counted.counted.Goals as goal
 
 pub returns : goal.returns

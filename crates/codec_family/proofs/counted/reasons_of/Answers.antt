@@ -1,6 +1,5 @@
 use mathlib.Core.Path.{refl}
 use Rattle.lists.specs.Tabulate.{tabulate}
-use borrow.Author.Rules.{rules}
 use Rattle.codec_family.proofs.counted.reasons_of.Goals as goal
 
 pub returns : goal.returns

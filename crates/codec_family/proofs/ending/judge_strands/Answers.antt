@@ -1,5 +1,4 @@
 use Rattle.codec_family.specs.Ending.{judgement}
-use borrow.Author.Rules.{rules}
 use Rattle.codec_family.proofs.ending.judge_strands.Goals as goal
 
 pub returns : goal.returns

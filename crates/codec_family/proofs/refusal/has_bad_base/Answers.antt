@@ -1,13 +1,8 @@
 use mathlib.Core.Bool.{Bool, true, false, not, ◌&&◌, ◌||◌}
 use mathlib.Core.Path.{◌≡◌, refl, sym, ◌∙◌}
-use Prim.Native.Nat.{suc, ◌-◌, ◌≤◌}
-use native.Mathlib.Numerals.{add-one}
 use native.Mathlib.Omega.{arith}
-use borrow.Author.Rules.{rules}
-use lib.ListN.{length, get_or, drop, drop_of_length-le}
-use lib.Seq.{drop-cons}
-use Rattle.lists.specs.Every.{every}
-use Rattle.codec_family.specs.Refusals.{is_base, bad_bases}
+use lib.ListN.{drop_of_length-le}
+use Rattle.codec_family.specs.Refusals.{bad_bases}
 use Rattle.codec_family.proofs.refusal.has_bad_base.Goals as goal
 
 one_more : (bad base rest : Bool) → bad || not (base && rest) ≡ (bad || not base) || not rest

@@ -1,4 +1,3 @@
-use borrow.Author.Rules.{rules}
 use Rattle.codec_family.specs.Refusals.{too_narrow}
 use Rattle.codec_family.proofs.refusal.is_too_narrow.Goals as goal
 

@@ -1,5 +1,4 @@
 use Rattle.codec_family.specs.Refusals.{of_strands}
-use borrow.Author.Rules.{rules}
 use Rattle.codec_family.proofs.refusal.refuse_strands.Goals as goal
 
 pub returns : goal.returns
