@@ -14,12 +14,12 @@ use Rattle.table_text.specs.Texts.{texts}
 use Rattle.answer_text.specs.Line.{fields_text, line_with}
 
 -- a text copied to the front of the part that begins at a place is stored there
-pub copied_stored : (text old new : List ℕ) (to : ℕ) → to + length text ≤ length old → new ≡ take (length text) text ++ drop (length text) (mid_of to (length old - to) old)
+pub copied_stored : (text old new : List ℕ) (to : ℕ) → to + length text ≤ length old → new ≡ text ++ drop (length text) (mid_of to (length old - to) old)
     → put_mid to (length old - to) old new ≡ sets old to text
 copied_stored text old new to h e =
     let whole : mid_of to (length old - to) old ≡ drop to old = take_all (length old - to) (drop to old) (simp length-drop (omega arith)) in
     let after : drop (length old - to) (drop to old) ≡ [] = drop_of_length-le (drop to old) {i = length old - to} (simp length-drop (omega arith)) in
-    rw (e, whole, after, take-length, append-nil, drop-drop, sets-eq text old to h, append_assoc)
+    rw (e, whole, after, append-nil, drop-drop, sets-eq text old to h, append_assoc)
 
 -- the text at the first place, and those after it
 texts_first : (at : ℕ → List ℕ) (n : ℕ) → texts at (suc n) ≡ at 0 ++ texts (λ i. at (suc i)) n

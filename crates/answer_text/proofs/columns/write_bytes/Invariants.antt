@@ -1,0 +1,14 @@
+use Prim.Native.Nat.{◌-◌, ◌≤◌}
+use native.Mathlib.Omega.{arith}
+use borrow.Author.Rules.{rules}
+use lib.ListN.{length}
+use Rattle.table_text.proofs.Storing.{Storing, storing_none, storing_more, storing_all}
+use Rattle.answer_text.specs.Line.{fields_text}
+use Rattle.answer_text.proofs.Lines.{field_at, field_short}
+use Rattle.answer_text.proofs.columns.write_bytes.Given as goal
+
+abbrev pub invariant-loop-i : goal.invariant-loop-i
+invariant-loop-i l = (l.i ≤ length l.numbers) × Storing (field_at l.numbers) 4 l.initial.output l.to l.output l.end l.i
+
+abbrev pub decreases-loop-i : goal.decreases-loop-i
+decreases-loop-i l = length l.numbers - l.i
