@@ -40,7 +40,7 @@ use Rattle.codec_family.specs.declared.ending.Ending.{Ending}
 use Rattle.codec_family.specs.declared.ending.Verdict.{Verdict}
 use Rattle.codec_family.specs.declared.room.Room.{Room}
 use Rattle.codec_family.specs.declared.room.Widths.{Widths}
-use Rattle.codec_family.proofs.Called.{Fits, called_fits, short_frame}
+use Rattle.codec_family.proofs.Called.{called_fits, short_frame}
 use Rattle.codec_family.proofs.Counting.{counted_few, few_addable}
 use Rattle.codec_family.proofs.Refusing.{cause_fails, refused_call, ending_is, fates_are, ledger_is, marks_are, column_is}
 use Rattle.codec_family.proofs.Selected.{few_records, decision_refusal}
