@@ -1,0 +1,13 @@
+use Prim.Native.Nat.{◌-◌, ◌≤◌}
+use native.Mathlib.Omega.{arith}
+use borrow.Author.Rules.{rules}
+use lib.ListN.{get_or}
+use Rattle.handover_text.specs.Handover.{rejected_text, rejections_text}
+use Rattle.table_text.proofs.Storing.{Storing, storing_none, storing_more, storing_all}
+use Rattle.handover_text.proofs.handover.write_rejections.Given as goal
+
+abbrev pub invariant-loop-i : goal.invariant-loop-i
+invariant-loop-i l = (l.i ≤ l.n) × Storing (λ k. rejected_text l.family (get_or l.records k 0) (get_or l.reasons k 0)) 74 l.initial.output l.to l.output l.end l.i
+
+abbrev pub decreases-loop-i : goal.decreases-loop-i
+decreases-loop-i l = l.n - l.i
