@@ -4,8 +4,8 @@ use mathlib.Core.Path.{◌≡◌, sym}
 use Prim.Native.Nat.{ℕ, zero, suc, ◌+◌, ◌-◌, ◌^◌, ◌≤◌, ◌<◌}
 use native.Mathlib.Omega.{arith}
 use borrow.Rule.Slice.PartMut.{mid_of, put_mid}
-use lib.ListN.{length, get_or, take, drop, length-drop, drop_of_length-le}
-use lib.Seq.{sets, sets-eq, take_all, take-length, drop-drop}
+use lib.ListN.{length, get_or, drop, length-drop, drop_of_length-le}
+use lib.Seq.{sets, sets-eq, take_all, drop-drop}
 use Rattle.table_text.specs.Decimal.{decimal}
 use Rattle.table_text.specs.OutputTable.{Stored}
 use Rattle.table_text.proofs.Decimals.{length-decimal}

@@ -1,8 +1,8 @@
 use native.Mathlib.Omega.{arith}
-use lib.ListN.{length, get_or}
+use lib.ListN.{get_or}
 use Rattle.table_text.proofs.Storing.{storing_none, storing_more, storing_all}
 use Rattle.answer_text.specs.Line.{fields_text}
-use Rattle.answer_text.proofs.Lines.{field_at, field_short}
+use Rattle.answer_text.proofs.Lines.{field_short}
 use Rattle.answer_text.proofs.columns.write_shorts.Goals as goal
 
 pub loop-i-init : goal.loop-i-init

@@ -1,10 +1,7 @@
 use Prim.Native.Nat.{◌-◌, ◌≤◌}
-use native.Mathlib.Omega.{arith}
-use borrow.Author.Rules.{rules}
 use lib.ListN.{length}
-use Rattle.table_text.proofs.Storing.{Storing, storing_none, storing_more, storing_all}
-use Rattle.answer_text.specs.Line.{fields_text}
-use Rattle.answer_text.proofs.Lines.{field_at, field_short}
+use Rattle.table_text.proofs.Storing.{Storing}
+use Rattle.answer_text.proofs.Lines.{field_at}
 use Rattle.answer_text.proofs.columns.write_shorts.Given as goal
 
 abbrev pub invariant-loop-i : goal.invariant-loop-i

@@ -22,4 +22,3 @@ returns-then-ending-eq-REJECTED-clause-stored c = rw (ne_eqb _ _ c.if-ending-eq-
 pub returns-clause-stored : goal.returns-clause-stored
 unfolding ending_text
 returns-clause-stored c = rw (ne_eqb _ _ c.if-ending-eq-CALLED.false, ne_eqb _ _ c.if-ending-eq-EMPTY.false, ne_eqb _ _ c.if-ending-eq-NO_STRAND.false, ne_eqb _ _ c.if-ending-eq-REJECTED.false) c.write_line-2.ensures.stored
-

@@ -1,9 +1,7 @@
 use Prim.Native.Nat.{◌-◌, ◌≤◌}
-use native.Mathlib.Omega.{arith}
-use borrow.Author.Rules.{rules}
 use lib.ListN.{get_or}
-use Rattle.answer_text.specs.FamilyText.{listed_text, listings_text}
-use Rattle.table_text.proofs.Storing.{Storing, storing_none, storing_more, storing_all}
+use Rattle.answer_text.specs.FamilyText.{listed_text}
+use Rattle.table_text.proofs.Storing.{Storing}
 use Rattle.answer_text.proofs.family_answer.write_listings.Given as goal
 
 abbrev pub invariant-loop-i : goal.invariant-loop-i

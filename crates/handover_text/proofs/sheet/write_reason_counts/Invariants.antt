@@ -1,9 +1,7 @@
 use Prim.Native.Nat.{◌+◌, ◌-◌, ◌≤◌}
-use native.Mathlib.Omega.{arith}
-use borrow.Author.Rules.{rules}
 use lib.ListN.{get_or}
-use Rattle.table_text.proofs.Storing.{Storing, storing_none, storing_more, storing_all}
-use Rattle.handover_text.specs.Sheet.{reason_text, reasons_text}
+use Rattle.table_text.proofs.Storing.{Storing}
+use Rattle.handover_text.specs.Sheet.{reason_text}
 use Rattle.handover_text.proofs.sheet.write_reason_counts.Given as goal
 
 abbrev pub invariant-loop-i : goal.invariant-loop-i
