@@ -1,5 +1,4 @@
 use mathlib.Core.Path.{sym, ◌∙◌}
-use borrow.Author.Rules.{rules}
 use Rattle.codec_samples.proofs.Deciding.{run_large, own_large, run_full, own_full, neither}
 use Rattle.codec_samples.proofs.books.deciding_families.Goals as goal
 
