@@ -2,7 +2,6 @@
 use mathlib.Core.Bool.{Bool, true, false, cond}
 use mathlib.Core.Path.{◌≡◌, refl}
 use Prim.Native.Nat.{ℕ, ◌≤◌}
-use native.Mathlib.Nat.{le_trans}
 use native.Mathlib.Omega.{arith}
 use borrow.Author.Tests.{eqb-false}
 use lib.Dec.{eqb}
@@ -13,7 +12,6 @@ use Rattle.line_text.specs.declared.lines.Stop.TheVariants as stops
 use Rattle.line_text.specs.declared.lines.Stop.{Stop}
 use Rattle.family_windows.specs.Places.{ReachedWithin, beginning, stopped}
 use Rattle.family_windows.specs.declared.windows.Reached.TheVariants.{Until, Malformed}
-use Rattle.family_windows.specs.declared.windows.Reached.{Reached}
 
 module _ (size room to : ℕ) (fits : to ≤ room) where
   beginning-within : (ledgers : Next) (place : ℕ) → next_place ledgers ≤ size → place ≤ size → ReachedWithin size room (beginning ledgers place to)
