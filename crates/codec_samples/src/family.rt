@@ -64,7 +64,8 @@ pub fn consensus_reads_sampled(
         (samples_of «samples».new)
         (lent_of (duplex d_bases.new d_quals.new d_depths.new d_errors.new) (strand s1_bases.new s1_quals.new s1_depths.new s1_errors.new) (strand s2_bases.new s2_quals.new s2_depths.new s2_errors.new) listed.new reasons.new marks.new) }
 {
-    if 95 < sample {
+    let is_above = 95 < sample;
+    if is_above {
         return FamilyAnswer {
             ending: report(Ending::Refused(20, 0)),
             listed: 0,

@@ -6,8 +6,8 @@ use lib.ListN.{length}
 use Rattle.codec_samples.proofs.Sampling.{sampled_refused_call, refused_twenty, addable_to_both, books_kept}
 use Rattle.codec_samples.proofs.family.consensus_reads_sampled.Goals as goal
 
-pub returns-then-sample-gt95 : goal.returns-then-sample-gt95
-returns-then-sample-gt95 c = λ rs words size chosen. rw c.report.ensures (sampled_refused_call _ _ _ _ 20 0 (refused_twenty _ _ c.if-sample-gt95.true))
+pub returns-then-is_above : goal.returns-then-is_above
+returns-then-is_above c = λ rs words size chosen. rw c.report.ensures (sampled_refused_call _ _ _ _ 20 0 (refused_twenty _ _ c.if-is_above.true))
 
 pub keep_books-requires-clause-addable : goal.keep_books-requires-clause-addable
 keep_books-requires-clause-addable c = λ goes_on.
