@@ -1,5 +1,5 @@
 -- Where a family ends: past where it began, within the window, and the output filled within its room.
-use Rattle.std.specs.Prelude.{ℕ, ◌≤◌, ◌<◌}
+use Rattle.std.specs.Prelude.{ℕ, ◌≤◌}
 use Rattle.line_text.specs.Reading.{stop_place}
 use Rattle.family_windows.specs.Places.{Onward}
 use Rattle.select_table.specs.declared.answers.Step.{Step}
