@@ -32,7 +32,7 @@ use Rattle.family_calls.specs.Ledgers.{room_for, records_of, call_for, Kept, Goe
 use Rattle.family_calls.specs.Places.{WindowGoes}
 
 -- two ways, one after the other
-pub goes_on : {a b c : Handed} {p q r : Parts} → Goes a p b q → Goes b q c r → Goes a p c r
+pub goes_on : {a : Handed} {p : Parts} {b : Handed} {q : Parts} {c : Handed} {r : Parts} → Goes a p b q → Goes b q c r → Goes a p c r
 goes_on first here = first
 goes_on first (end more e) = end (goes_on first more) e
 goes_on first (figures more e) = figures (goes_on first more) e
