@@ -1,6 +1,5 @@
 -- A family that is read goes as its lines say, and the call's ledgers go on from there.
-use mathlib.Core.Path.{◌≡◌, sym}
-use Prim.Native.Nat.{ℕ}
+use mathlib.Core.Path.{sym}
 use native.Mathlib.Omega.{arith}
 use Rattle.family_text.proofs.Advances.{family_advances}
 use Rattle.family_calls.specs.Ledgers.{here, end, family}

@@ -1,7 +1,6 @@
 -- A step goes on from the place reached, and a window stops where its text does.
-use mathlib.Core.Path.{◌≡◌, refl, ◌∙◌}
+use mathlib.Core.Path.{refl}
 use native.Mathlib.Omega.{arith}
-use borrow.Author.Rules.{rules}
 use Rattle.family_calls.specs.Ledgers.{here}
 use Rattle.family_calls.proofs.Ledgers.{goes_on, window_goes}
 use Rattle.family_calls.proofs.answers.answer_window.Goals as goal

@@ -5,7 +5,6 @@ use native.Mathlib.Omega.{arith}
 use borrow.Author.Rules.{rules}
 use lib.ListN.{length, take}
 use Rattle.codec_duplex.specs.Columns.{strand}
-use Rattle.codec_records.specs.Records.{Holds}
 use Rattle.codec_records.specs.declared.records.Record.{Record}
 use Rattle.codec_caller.specs.Settling.{Chose}
 use Rattle.family_text.specs.Family.{family as family_of}

@@ -1,5 +1,4 @@
 -- Behind an answer stands the line of its sample.
-use mathlib.Core.Path.{◌≡◌}
 use Rattle.codec_duplex.specs.Columns.{strand}
 use Rattle.codec_duplex.specs.Duplex.{duplex}
 use Rattle.codec_family.specs.Call.{Lent, lent_of}
