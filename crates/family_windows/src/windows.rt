@@ -4,16 +4,20 @@ ghost use Rattle.codec_stats.specs.Ledger.{fresh};
 ghost use Rattle.ledger_lines.specs.Settings.{fresh_handed};
 ghost use Rattle.family_windows.specs.Places.{stopped, SizeWithin};
 
+use crate::output;
 use codec_stats::ledger::Ledger;
 use ledger_lines::settings::Handed;
 use line_text::lines::{Next, Stop};
+use std::fs;
 use std::io::{Read, Seek, SeekFrom};
+use std::os::unix::fs::FileTypeExt;
+use std::rt::Files;
 
 // A well-formed family is shorter: 600 records, 9,000 words and eight columns of 1,100 places are below 200,000 bytes.
 pub const WINDOW_BYTES: usize = 524288;
 
 // Standard input under the name that opens it as a file, since a pass goes back to its beginning.
-pub const STANDARD_INPUT: &str = "/dev/stdin";
+const STANDARD_INPUT: &str = "/dev/stdin";
 
 // Where the next window begins, and how much of the output is filled; or where a malformed line begins.
 #[derive(Drop)]
@@ -107,12 +111,42 @@ pub fn stop_window(ledgers: Next, stop: Stop, ends: bool, to: usize) -> Reached
     }
 }
 
+fn say_read_twice(rt: &impl Eprint) {
+    let _ = rt.eprintln("the input is read twice: it has to be a file, and not a pipe");
+}
+
+// To open a pipe or a socket anew could wait for ever.
+fn is_stream(rt: &impl Files) -> bool {
+    match fs::metadata(rt, STANDARD_INPUT) {
+        Ok(known) => {
+            let kind = known.file_type();
+            kind.is_fifo() | kind.is_socket()
+        }
+        Err(_) => false,
+    }
+}
+
+// Standard input as a file; where it is none, standard error says so.
+pub fn open_input<R: Files + Eprint>(rt: &R) -> Option<R::File> {
+    if is_stream(rt) {
+        say_read_twice(rt);
+        return None;
+    }
+    match fs::open(rt, STANDARD_INPUT) {
+        Ok(file) => Some(file),
+        Err(error) => {
+            output::say_failed(rt, "standard input", error);
+            None
+        }
+    }
+}
+
 // How many bytes a file has; a pipe has no size, and standard error says so.
 pub fn file_size(rt: &impl Eprint, file: &mut impl Seek) -> Size
     ensures { SizeWithin result }
 {
     let Ok(size) = file.seek(SeekFrom::End(0)) else {
-        let _ = rt.eprintln("the input is read twice: it has to be a file, and not a pipe");
+        say_read_twice(rt);
         return Size::Unknown;
     };
     if (i64::MAX as u64) < size {

@@ -26,12 +26,8 @@ fn answer_file<R: Print + Eprint, F: Read + Seek>(rt: &R, file: &mut F) {
 }
 
 fn run_input<R: Files + Print + Eprint>(rt: &R) {
-    match fs::open(rt, windows::STANDARD_INPUT) {
-        Ok(file) => {
-            let mut file = file;
-            answer_file(rt, &mut file);
-        }
-        Err(error) => output::say_failed(rt, "standard input", error),
+    if let Some(mut file) = windows::open_input(rt) {
+        answer_file(rt, &mut file);
     }
 }
 
