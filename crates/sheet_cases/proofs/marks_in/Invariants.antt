@@ -1,3 +1,4 @@
+-- At most one mark for each byte passed.
 use Rattle.std.proofs.Common.{◌-◌, ◌≤◌, length}
 use Rattle.sheet_cases.proofs.marks_in.Given as goal
 

@@ -1,3 +1,4 @@
+-- Every sample is stored once.
 use Rattle.std.proofs.Common.{◌-◌, ◌≤◌}
 use Rattle.sheet_cases.proofs.show_longest.Given as goal
 

@@ -1,3 +1,4 @@
+-- The place stays within the buffer, whose length stays.
 use Rattle.std.proofs.Common.{◌-◌, ◌≡◌, ◌≤◌, length}
 use Rattle.table_cases.proofs.add_rows.Given as goal
 

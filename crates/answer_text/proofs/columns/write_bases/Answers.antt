@@ -1,3 +1,4 @@
+-- The bases stand behind a space, as a field does.
 use mathlib.Core.List.{[], ◌∷◌}
 use Rattle.table_text.proofs.Stores.{stored_then}
 use Rattle.answer_text.proofs.Lines.{line_stored}

@@ -1,3 +1,4 @@
+-- Three runs of stores, each from where the one before ends.
 use Rattle.answer_text.specs.Line.{fields_text}
 use Rattle.answer_text.proofs.Lines.{line_stored}
 use Rattle.answer_text.proofs.columns.write_byte_line.Goals as goal

@@ -1,3 +1,4 @@
+-- Each number after what is stored of those before it; 8 bits are below 10^3.
 use native.Mathlib.Omega.{arith}
 use lib.ListN.{get_or}
 use Rattle.table_text.proofs.Storing.{storing_none, storing_more, storing_all}

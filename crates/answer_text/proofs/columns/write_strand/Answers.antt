@@ -1,3 +1,4 @@
+-- Four lines, each from where the one before ends.
 use mathlib.Core.List.{List, [], ◌∷◌, ◌++◌}
 use Prim.Native.Nat.{ℕ}
 use lib.ListN.{take}

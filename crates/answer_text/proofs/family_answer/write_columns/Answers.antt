@@ -1,3 +1,4 @@
+-- Three times four lines, each from where the lines before end.
 use mathlib.Core.List.{◌++◌}
 use Rattle.codec_duplex.specs.Columns.{Strand, strand}
 use Rattle.table_text.proofs.Stores.{stored_then}

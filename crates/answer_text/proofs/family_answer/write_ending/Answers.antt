@@ -1,3 +1,4 @@
+-- The line by the kind; the kinds before it are excluded one by one.
 use borrow.Author.Tests.{eq-eqb, ne_eqb}
 use Rattle.answer_text.specs.FamilyText.{ending_text}
 use Rattle.answer_text.proofs.family_answer.write_ending.Goals as goal

@@ -1,3 +1,4 @@
+-- How it ends, the results by the kind, the ledger.
 use borrow.Author.Tests.{eq-eqb, ne_eqb}
 use Rattle.codec_duplex.specs.Columns.{strand}
 use Rattle.codec_duplex.specs.Duplex.{duplex}

@@ -1,3 +1,4 @@
+-- The ten reasons are listed one by one.
 use mathlib.Core.List.{List, [], ◌∷◌}
 use mathlib.Core.Path.{◌≡◌}
 use Prim.Native.Nat.{ℕ}

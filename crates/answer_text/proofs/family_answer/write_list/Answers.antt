@@ -1,3 +1,4 @@
+-- A line with the list for its fields.
 use mathlib.Core.List.{[], ◌∷◌}
 use Rattle.answer_text.specs.FamilyText.{listings_text, list_text}
 use Rattle.answer_text.proofs.Lines.{line_stored}

@@ -1,3 +1,4 @@
+-- The record behind a space, the colon, the reason.
 use mathlib.Core.List.{[], ◌∷◌}
 use native.Mathlib.Omega.{arith}
 use Rattle.table_text.specs.Decimal.{decimal}

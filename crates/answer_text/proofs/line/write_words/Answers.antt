@@ -1,3 +1,4 @@
+-- A copy into the part of the buffer from a place on is a run of stores there.
 use native.Mathlib.Omega.{arith}
 use Rattle.answer_text.proofs.Lines.{copied_stored}
 use Rattle.answer_text.proofs.line.write_words.Goals as goal

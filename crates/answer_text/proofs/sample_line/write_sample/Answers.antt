@@ -1,3 +1,4 @@
+-- The tag, the sample's number of two digits, the twenty places of its ledger, the line feed.
 use mathlib.Core.List.{List, ◌∷◌}
 use mathlib.Core.Path.{◌≡◌}
 use Prim.Native.Nat.{ℕ, ◌+◌, ◌-◌, ◌*◌}

@@ -1,3 +1,4 @@
+-- The variant decides which lines are written.
 use mathlib.Core.Bool.{Bool, true, false}
 use mathlib.Core.List.{◌++◌}
 use mathlib.Core.Path.{◌≡◌, refl}

@@ -1,3 +1,4 @@
+-- Two lines, the second from where the first ends.
 use Rattle.table_text.specs.Text.{bytes_of}
 use Rattle.table_text.proofs.Stores.{stored_then}
 use Rattle.answer_text.specs.Line.{line_text}

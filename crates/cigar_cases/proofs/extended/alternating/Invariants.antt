@@ -1,3 +1,4 @@
+-- Every base is looked at once.
 use Rattle.std.proofs.Common.{◌-◌, ◌≤◌}
 use Rattle.cigar_cases.proofs.extended.alternating.Given as goal
 

@@ -1,3 +1,4 @@
+-- One word a turn.
 use Rattle.std.proofs.Common.{◌-◌, ◌≤◌, length}
 use Rattle.cigar_cases.proofs.extended.put_words.Given as goal
 

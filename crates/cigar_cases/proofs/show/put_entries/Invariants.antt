@@ -1,3 +1,4 @@
+-- One entry a turn.
 use Rattle.std.proofs.Common.{◌-◌, ◌≤◌, length}
 use Rattle.cigar_cases.proofs.show.put_entries.Given as goal
 

@@ -1,3 +1,4 @@
+-- One position a turn, up to the end.
 use Rattle.std.proofs.Common.{◌-◌}
 use Rattle.cigar_cases.proofs.show.show_positions.Given as goal
 

@@ -1,3 +1,4 @@
+-- The words fit their room, and each length has 28 bits.
 use Rattle.std.proofs.Common.{◌-◌, ◌≡◌, ◌≤◌, ◌<◌, ◌^◌, length}
 use Rattle.cigar_cases.proofs.text.words_of.Given as goal
 

@@ -1,3 +1,4 @@
+-- By the refusal.
 use mathlib.Core.Path.{sym, ◌∙◌}
 use Rattle.codec_dispatch.proofs.Lanes.{add-refusal}
 use Rattle.codec_dispatch.proofs.dispatch.add.Goals as goal

@@ -1,3 +1,4 @@
+-- The first waiting lane is still to come among the lanes not yet looked at.
 use mathlib.Core.Path.{◌≡◌, sym, ◌∙◌}
 use native.Mathlib.Omega.{arith}
 use borrow.Author.Tests.{lt-ltb, le-ltb}

@@ -1,3 +1,4 @@
+-- By the test of refusal 22 and the next lane.
 use mathlib.Core.Path.{sym, ◌∙◌}
 use native.Mathlib.Omega.{arith}
 use borrow.Author.Tests.{lt-ltb}

@@ -1,3 +1,4 @@
+-- The first i positions of both results are written; a turn writes one more.
 use mathlib.Core.Path.{◌≡◌, ◌∙◌, ap, ap₂}
 use native.Mathlib.Omega.{arith}
 use borrow.Author.Rules.{rules}

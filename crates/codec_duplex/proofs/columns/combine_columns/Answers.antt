@@ -1,3 +1,4 @@
+-- Bases and qualities are written first; then the first i positions of the other results, and a turn writes one more.
 use mathlib.Core.Path.{◌≡◌, refl, ◌∙◌, ap, ap₂}
 use native.Mathlib.Omega.{arith}
 use lib.ListN.{length, length-set}

@@ -1,3 +1,4 @@
+-- The answer is the definition's case by the test of lengths and by what `judge` ensures; the columns are as lent, or as `combine_columns` left them.
 use mathlib.Core.Bool.{true, false}
 use mathlib.Core.List.{◌++◌}
 use mathlib.Core.Path.{◌≡◌, refl, sym, ◌∙◌}

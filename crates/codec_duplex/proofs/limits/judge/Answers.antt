@@ -1,3 +1,4 @@
+-- Each answer goes by the tests that lead to it.
 use borrow.Author.Tests.{eq-eqb, ne_eqb, lt-ltb, le-ltb}
 use Rattle.codec_duplex.specs.Limits.{judged}
 use Rattle.codec_duplex.proofs.limits.judge.Goals as goal

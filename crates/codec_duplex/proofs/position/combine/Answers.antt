@@ -1,3 +1,4 @@
+-- The four fields, at what `has_data` answers.
 use Rattle.codec_duplex.specs.Position.{combined}
 use Rattle.codec_duplex.proofs.position.combine.Goals as goal
 

@@ -1,3 +1,4 @@
+-- The loop has counted the positions below i.
 use mathlib.Core.Path.{◌≡◌}
 use Prim.Native.Nat.{◌+◌}
 use native.Mathlib.Omega.{arith}

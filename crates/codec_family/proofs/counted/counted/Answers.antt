@@ -1,3 +1,4 @@
+-- Each count is that of its fate.
 use Rattle.lists.specs.Tabulate.{tabulate}
 use Rattle.codec_family.specs.Counted.{counted_by}
 use Rattle.codec_family.proofs.counted.counted.Goals as goal

@@ -1,3 +1,4 @@
+-- Ten places, one by one.
 use mathlib.Core.Path.{refl}
 use Rattle.lists.specs.Tabulate.{tabulate}
 use Rattle.codec_family.proofs.counted.reasons_of.Goals as goal

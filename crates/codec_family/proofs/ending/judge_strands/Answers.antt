@@ -1,3 +1,4 @@
+-- The tallies judged by the limits.
 use Rattle.codec_family.specs.Ending.{judgement}
 use Rattle.codec_family.proofs.ending.judge_strands.Goals as goal
 

@@ -1,3 +1,4 @@
+-- The refusals in the order of the definition.
 use Rattle.codec_family.specs.Refusals.{of_strands}
 use Rattle.codec_family.proofs.refusal.refuse_strands.Goals as goal
 

@@ -1,3 +1,4 @@
+-- The first places of the scratch are the padded bases.
 use mathlib.Core.Bool.{not}
 use mathlib.Core.Path.{sym, ◌∙◌, ap₂}
 use Rattle.lists.proofs.Written.{take_count}

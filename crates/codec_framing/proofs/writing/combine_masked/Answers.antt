@@ -1,3 +1,4 @@
+-- The columns are what the first call ensures; the second masks the qualities that it wrote.
 use Rattle.codec_duplex.specs.Columns.{strand, combined_column}
 use Rattle.codec_duplex.specs.declared.position.Position.{Position}
 use Rattle.codec_framing.specs.Framing.{masked_duplex}

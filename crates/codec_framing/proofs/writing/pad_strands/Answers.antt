@@ -1,3 +1,4 @@
+-- Each strand is what its call ensures.
 use Rattle.codec_framing.specs.Framing.{padded_r1, padded_r2}
 use Rattle.codec_framing.proofs.writing.pad_strands.Goals as goal
 

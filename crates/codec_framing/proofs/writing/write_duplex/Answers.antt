@@ -1,3 +1,4 @@
+-- The strands and the duplex stand where they were written, have room there, and are turned back there.
 use Rattle.codec_framing.proofs.Places.{padded_rooms, combined_room, framed}
 use Rattle.codec_framing.proofs.writing.write_duplex.Goals as goal
 

@@ -1,3 +1,4 @@
+-- Each answer rewrites the rule by the tests before it; a record that has a namesake before it takes that one's fate.
 use mathlib.Core.Bool.{true}
 use mathlib.Core.Path.{◌≡◌, sym, ◌∙◌}
 use native.Mathlib.Omega.{arith}

@@ -1,3 +1,4 @@
+-- Record i is the first of the name; the search gives the second, and the rest is asked for a third.
 use mathlib.Core.Path.{sym, ◌∙◌}
 use native.Mathlib.Omega.{arith}
 use Rattle.codec_pairing.specs.Pairing.{namesakes_from, is_pair}

@@ -1,3 +1,4 @@
+-- A record that remains and has no namesake before it is the first of its name.
 use mathlib.Core.Path.{sym, ◌∙◌}
 use lib.ListN.{get_or}
 use Rattle.codec_pairing.specs.Search.{Reached}

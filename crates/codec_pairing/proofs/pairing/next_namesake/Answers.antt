@@ -1,3 +1,4 @@
+-- No record of the name that remains stands between the first looked at and record i.
 use mathlib.Core.Path.{sym, ◌∙◌}
 use native.Mathlib.Omega.{arith}
 use borrow.Author.Tests.{eq-eqb, ne_eqb}

@@ -1,3 +1,4 @@
+-- No record of the name that remains stands between record k and record i.
 use mathlib.Core.Path.{sym, ◌∙◌}
 use Prim.Native.Nat.{zero-le}
 use native.Mathlib.Omega.{arith}

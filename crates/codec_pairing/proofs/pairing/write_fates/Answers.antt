@@ -1,3 +1,4 @@
+-- The fates of the first i records are written.
 use mathlib.Core.Path.{refl, ◌≡◌, ◌∙◌, ap}
 use native.Mathlib.Omega.{arith}
 use lib.ListN.{length, get_or-append}

@@ -1,3 +1,4 @@
+-- The pairs whose earlier record is below i are written, and with those still to come they are the sides.
 use mathlib.Core.List.{List, [], ◌∷◌, ◌++◌, map, append_assoc, append-nil}
 use mathlib.Core.Bool.{true}
 use mathlib.Core.Path.{◌≡◌, refl, sym, ◌∙◌, ap}

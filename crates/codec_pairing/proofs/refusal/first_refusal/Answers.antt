@@ -1,3 +1,4 @@
+-- Each answer rewrites the table by the tests before it.
 use borrow.Author.Tests.{lt-ltb, le-ltb}
 use Rattle.codec_pairing.specs.Refusals.{first_refusal}
 use Rattle.codec_pairing.proofs.refusal.first_refusal.Goals as goal

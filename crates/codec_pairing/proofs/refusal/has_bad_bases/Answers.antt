@@ -1,3 +1,4 @@
+-- The answer is the last test where the one before it failed.
 use borrow.Author.Tests.{lt-ltb, le-ltb}
 use Rattle.codec_pairing.specs.Refusals.{bad_bases}
 use Rattle.codec_pairing.proofs.refusal.has_bad_bases.Goals as goal

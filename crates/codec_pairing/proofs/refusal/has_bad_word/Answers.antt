@@ -1,3 +1,4 @@
+-- All words passed are operations, so the words left decide.
 use mathlib.Core.Path.{sym, ◌∙◌}
 use native.Mathlib.Omega.{arith}
 use lib.ListN.{drop_of_length-le}

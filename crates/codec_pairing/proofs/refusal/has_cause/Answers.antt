@@ -1,3 +1,4 @@
+-- Each arm asks for its own cause, of the record's part.
 use Prim.Native.Nat.{◌≤◌}
 use native.Mathlib.Omega.{arith}
 use lib.ListN.{length}

@@ -1,3 +1,4 @@
+-- The answer is the last test where those before it failed.
 use borrow.Author.Tests.{lt-ltb, le-ltb}
 use Rattle.codec_pairing.specs.Refusals.{bad_part}
 use Rattle.codec_pairing.proofs.refusal.is_bad_part.Goals as goal

@@ -1,3 +1,4 @@
+-- The answer is the last test where those before it failed.
 use mathlib.Core.Bool.{or-true}
 use borrow.Author.Tests.{lt-ltb, le-ltb, eq-eqb, ne_eqb}
 use Rattle.codec_pairing.specs.Refusals.{bad_place}

@@ -1,3 +1,4 @@
+-- A cause that refuses nothing leaves the answer to the next.
 use mathlib.Core.Path.{sym, ◌∙◌}
 use Rattle.codec_pairing.specs.Refusals.{refusal_of_records}
 use Rattle.codec_pairing.proofs.refusal.refusal_of_records.Goals as goal

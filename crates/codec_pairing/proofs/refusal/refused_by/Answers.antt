@@ -1,3 +1,4 @@
+-- No record before record i gives the refusal, so those from it on decide.
 use mathlib.Core.Path.{refl, sym, ◌∙◌}
 use native.Mathlib.Omega.{arith}
 use Rattle.codec_pairing.specs.Refusals.{Reads, reads}

@@ -1,3 +1,4 @@
+-- The first i records stand in every column; a turn writes one more.
 use Rattle.std.proofs.Common.{rules}
 use mathlib.Core.Path.{refl}
 use Prim.Native.Nat.{◌<◌}

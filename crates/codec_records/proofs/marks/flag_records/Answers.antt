@@ -1,3 +1,4 @@
+-- Flagging the records from place k on gives what flagging all of them gives.
 use mathlib.Core.Bool.{true}
 use mathlib.Core.List.{List, ◌∷◌}
 use mathlib.Core.Path.{◌≡◌, sym, ◌∙◌, ap}

@@ -1,3 +1,4 @@
+-- The first n of the local flags are those of the side.
 use mathlib.Core.Path.{◌≡◌}
 use lib.ListN.{take}
 use Rattle.codec_records.specs.Marks.{side_flags}

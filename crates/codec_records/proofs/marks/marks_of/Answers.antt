@@ -1,3 +1,4 @@
+-- The first w words are those of the marks, and the others are still 0.
 use mathlib.Core.Path.{refl}
 use Prim.Native.Nat.{◌<◌}
 use native.Mathlib.Omega.{arith}

@@ -1,3 +1,4 @@
+-- The part is the next 64 of the flags, or as many as are left.
 use mathlib.Core.Path.{◌∙◌}
 use Rattle.codec_records.proofs.Words.{word_part}
 use Rattle.codec_records.proofs.marks.word_at.Goals as goal

@@ -1,3 +1,4 @@
+-- The loop has the word of the flags from place i on.
 use mathlib.Core.Bool.{false}
 use mathlib.Core.Path.{◌≡◌}
 use Prim.Native.Nat.{◌+◌, ◌-◌, ◌^◌, ◌<◌}

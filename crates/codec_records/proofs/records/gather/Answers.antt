@@ -1,3 +1,4 @@
+-- The first i places of each column are a field of the records.
 use Rattle.std.proofs.Common.{rules}
 use mathlib.Core.Path.{refl}
 use Prim.Native.Nat.{◌<◌}

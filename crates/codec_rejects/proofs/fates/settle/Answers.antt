@@ -1,3 +1,4 @@
+-- The first i fates are settled, and the others are as they were.
 use mathlib.Core.List.{List, map}
 use mathlib.Core.Path.{◌≡◌, ◌∙◌, ap}
 use Prim.Native.Nat.{ℕ, ◌≤◌}

@@ -1,3 +1,4 @@
+-- The ones of the first k words are counted, at most 64 a word.
 use mathlib.Core.Path.{refl}
 use Prim.Native.Nat.{◌≤◌}
 use native.Mathlib.Omega.{arith}

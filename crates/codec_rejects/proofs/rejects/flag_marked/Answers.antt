@@ -1,3 +1,4 @@
+-- The first k flags are those of the first k fates.
 use Prim.Native.Nat.{◌+◌}
 use native.Mathlib.Omega.{arith}
 use Rattle.lists.proofs.Map.{written-map_put, length-written-map}

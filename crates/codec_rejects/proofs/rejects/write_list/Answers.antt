@@ -1,3 +1,4 @@
+-- The rejected records before record i are listed, and with those still to come they are the list.
 use mathlib.Core.List.{List, [], ◌∷◌, ◌++◌, append_assoc, append-nil}
 use mathlib.Core.Path.{◌≡◌, sym, ◌∙◌, ap}
 use Prim.Native.Nat.{ℕ, ◌≤◌}

@@ -1,3 +1,4 @@
+-- The first n of the local flags are those of the fates.
 use mathlib.Core.Bool.{false}
 use mathlib.Core.List.{List, map}
 use mathlib.Core.Path.{◌≡◌, ◌∙◌, ap}

@@ -1,3 +1,4 @@
+-- By the tests in turn.
 use mathlib.Core.Path.{sym, ◌∙◌}
 use Rattle.codec_samples.proofs.Deciding.{run_large, own_large, run_full, own_full, neither}
 use Rattle.codec_samples.proofs.books.deciding_families.Goals as goal

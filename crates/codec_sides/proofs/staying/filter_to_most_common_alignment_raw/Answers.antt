@@ -1,3 +1,4 @@
+-- The first places of the local columns are what the family's columns say of the side's records.
 use mathlib.Core.Bool.{false}
 use mathlib.Core.List.{List}
 use mathlib.Core.Path.{◌≡◌, ◌∙◌, ap, fun_ext}

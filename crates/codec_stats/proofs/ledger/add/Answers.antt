@@ -1,3 +1,4 @@
+-- No sum passes 64 bits, by what refusal 10 leaves of a ledger.
 use native.Mathlib.Omega.{arith}
 use Rattle.codec_stats.specs.Ledger.{plus, Addable}
 use Rattle.codec_stats.proofs.Small.{Small, small}

@@ -1,3 +1,4 @@
+-- The sums of the reasons passed are written.
 use mathlib.Core.Path.{◌≡◌, refl}
 use Prim.Native.Nat.{◌+◌}
 use native.Mathlib.Omega.{arith}

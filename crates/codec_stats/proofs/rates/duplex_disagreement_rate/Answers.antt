@@ -1,3 +1,4 @@
+-- Refusal 10 leaves at most 2^41 of either count, which a 64-bit float holds.
 use Prim.Native.Nat.{ℕ, ◌≤◌}
 use native.Mathlib.Omega.{arith}
 use borrow.Author.Tests.{eq-eqb, ne_eqb, le-leb}

@@ -1,3 +1,4 @@
+-- Refusal 10 leaves no reason above 2^41.
 use Rattle.codec_stats.specs.Ledger.{filtered}
 use Rattle.codec_stats.proofs.Small.{small}
 use Rattle.codec_stats.proofs.rates.filtered.Goals as goal

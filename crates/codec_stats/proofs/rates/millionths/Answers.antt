@@ -1,3 +1,4 @@
+-- After k digits the quotient is disagreements × 10^k / bases and the rest is the remainder, below the bases and so below 2^41.
 use mathlib.Core.Path.{◌≡◌, sym, ◌∙◌}
 use Prim.Native.Nat.{◌+◌, ◌*◌, ◌/◌, ◌%◌, ◌^◌, ◌<◌}
 use native.Mathlib.Nat.{mod-lt, pos_of_ne-zero}

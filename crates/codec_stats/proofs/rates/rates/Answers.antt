@@ -1,3 +1,4 @@
+-- The test of refusal 10 gives the figures what they require.
 use Rattle.codec_stats.specs.Ledger.{rates_of}
 use Rattle.codec_stats.proofs.rates.rates.Goals as goal
 

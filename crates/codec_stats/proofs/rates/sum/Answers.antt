@@ -1,3 +1,4 @@
+-- The sum of the reasons passed, none of them above 2^41.
 use mathlib.Core.Path.{sym, ◌∙◌, ap}
 use Prim.Native.Nat.{ℕ, ◌+◌}
 use native.Mathlib.Omega.{arith}

@@ -1,3 +1,4 @@
+-- The definition's test.
 use mathlib.Core.Path.{refl}
 use Rattle.codec_stats.specs.Ledger.{full}
 use Rattle.codec_stats.proofs.refusals.is_full.Goals as goal

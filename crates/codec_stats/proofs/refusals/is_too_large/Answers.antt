@@ -1,3 +1,4 @@
+-- The definition's two tests.
 use Rattle.codec_stats.specs.Ledger.{too_large}
 use Rattle.codec_stats.proofs.refusals.is_too_large.Goals as goal
 

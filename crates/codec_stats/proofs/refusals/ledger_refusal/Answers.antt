@@ -1,3 +1,4 @@
+-- Refusal 10, then 11, by what the callees ensure.
 use Rattle.codec_stats.specs.Ledger.{of_counts}
 use Rattle.codec_stats.proofs.refusals.ledger_refusal.Goals as goal
 

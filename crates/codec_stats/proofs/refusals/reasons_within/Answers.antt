@@ -1,3 +1,4 @@
+-- The reasons passed are within the limit.
 use mathlib.Core.Path.{sym}
 use native.Mathlib.Omega.{arith}
 use Rattle.lists.proofs.Every.{every_of}

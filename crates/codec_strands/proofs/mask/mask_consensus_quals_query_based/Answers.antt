@@ -1,3 +1,4 @@
+-- The first i qualities are masked; the next is still as it was.
 use mathlib.Core.Path.{◌≡◌, sym, ◌∙◌, ap}
 use native.Mathlib.Omega.{arith}
 use borrow.Author.Rules.{rules}

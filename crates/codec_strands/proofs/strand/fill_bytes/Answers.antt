@@ -1,3 +1,4 @@
+-- The first i places are filled; a turn fills one more.
 use mathlib.Core.Path.{sym, ◌∙◌}
 use native.Mathlib.Omega.{arith}
 use lib.ListN.{length, replicate, length-replicate}

@@ -1,3 +1,4 @@
+-- The first i places are written; a turn writes one more.
 use mathlib.Core.Bool.{cond}
 use mathlib.Core.Path.{sym, ◌∙◌, ap}
 use native.Mathlib.Omega.{arith}

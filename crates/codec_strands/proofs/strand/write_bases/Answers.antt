@@ -1,3 +1,4 @@
+-- Padding fills the first places, and the column is put over it where it begins.
 use native.Mathlib.Omega.{arith}
 use borrow.Author.Rules.{rules}
 use Rattle.codec_strands.specs.Strands.{turned_bases}

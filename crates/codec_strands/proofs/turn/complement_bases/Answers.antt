@@ -1,3 +1,4 @@
+-- The first i places are complemented; the next is still as it was.
 use mathlib.Core.List.{map}
 use mathlib.Core.Path.{sym, ◌∙◌, ap}
 use Prim.Native.Nat.{ℕ}

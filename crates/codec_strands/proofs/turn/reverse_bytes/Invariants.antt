@@ -1,3 +1,4 @@
+-- The i outermost places at each end are exchanged; a turn exchanges the next two.
 use mathlib.Core.Path.{◌≡◌}
 use Prim.Native.Nat.{◌+◌, ◌-◌}
 use Rattle.lists.proofs.Turning.{Turning}

@@ -1,3 +1,4 @@
+-- Each column is what its calls ensure; the bases take two.
 use Rattle.codec_strands.proofs.StrandLaws.{same_columns, reversed_then_complemented}
 use Rattle.codec_strands.proofs.turn.reverse_complement_ss.Goals as goal
 

@@ -1,3 +1,4 @@
+-- The code compares the bits of the two differences.
 use mathlib.Core.Path.{◌∙◌, ap₂}
 use borrow.Author.Rules.{sfits_of}
 use Rattle.codec_window.specs.Window.{eq_z, in_phase}

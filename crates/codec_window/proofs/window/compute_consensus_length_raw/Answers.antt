@@ -1,3 +1,5 @@
+-- What each arm tells of the two read positions decides the length; a position lies within its read, so the sum and the
+-- difference fit.
 use mathlib.Core.Bool.{false}
 use mathlib.Core.Path.{◌≡◌, refl, sym, ◌∙◌}
 use native.Mathlib.Omega.{arith}

@@ -1,3 +1,4 @@
+-- Each return is the definition at the tests that led there.
 use mathlib.Core.Path.{refl}
 use Rattle.codec_window.specs.Window.{length_in}
 use Rattle.codec_window.proofs.window.length_in.Goals as goal

@@ -1,3 +1,4 @@
+-- The window in hand is the definition's, so each return is the definition at the tests that led there.
 use mathlib.Core.Bool.{false}
 use mathlib.Core.Path.{◌≡◌, refl, sym, ◌∙◌, ap₂}
 use native.Mathlib.Omega.{arith}

@@ -1,3 +1,4 @@
+-- Bases and qualities are written first; then the first i positions of the columns of pairs, and a turn writes two bytes more of each.
 use mathlib.Core.List.{List}
 use mathlib.Core.Path.{◌≡◌, ◌∙◌, ap, ap₂}
 use Prim.Native.Nat.{ℕ, ◌+◌, ◌*◌, ◌<◌}

@@ -1,3 +1,4 @@
+-- The answer is the definition's case by the two tests of lengths and by what `judge` ensures; the columns are as lent, or as `combine_bytes` left them.
 use mathlib.Core.Bool.{Bool, true, false, cond, ◌&&◌, and-eq-true_iff}
 use mathlib.Core.List.{[], ◌∷◌, ◌++◌}
 use mathlib.Core.Path.{◌≡◌, refl, sym, ◌∙◌, ap}

@@ -1,3 +1,4 @@
+-- The two bytes are the value's.
 use mathlib.Core.Path.{◌∙◌, sym}
 use Rattle.duplex_bytes.proofs.Laws.{words_at}
 use Rattle.duplex_bytes.proofs.words.word_at.Goals as goal

@@ -1,3 +1,4 @@
+-- The words have room for those of any family, and the output for any answer.
 use Rattle.std.proofs.Common.{ℕ, sym}
 use Rattle.std.proofs.lemmas.List.{length-replicate}
 use Rattle.family_calls.proofs.passes.read_families.Goals as goal

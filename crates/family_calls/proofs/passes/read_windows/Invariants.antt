@@ -1,3 +1,4 @@
+-- The offset grows at each turn and stays within the file; no more lines are passed than bytes; each slice keeps its length.
 use mathlib.Core.Path.{◌≡◌}
 use Prim.Native.Nat.{◌-◌, ◌≤◌}
 use lib.ListN.{length}

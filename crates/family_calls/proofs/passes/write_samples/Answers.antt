@@ -1,3 +1,4 @@
+-- The text stands at the front of the output.
 use mathlib.Core.Path.{sym, ◌∙◌}
 use Rattle.sheet_text.proofs.Front.{sheet_front}
 use Rattle.family_calls.proofs.passes.write_samples.Goals as goal

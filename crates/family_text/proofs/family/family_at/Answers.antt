@@ -1,3 +1,4 @@
+-- The header, then what follows it; it announces no more words than there is room for.
 use Rattle.family_text.proofs.Calls.{header_stop, header_found}
 use Rattle.family_text.proofs.family.family_at.Goals as goal
 

@@ -1,3 +1,4 @@
+-- The records, the words and the two strands, each read where the one before it ends.
 use Rattle.line_text.proofs.Readings.{steps_mapped, steps_applied}
 use Rattle.family_text.specs.Family.{family, family_from}
 use Rattle.family_text.proofs.family.next_body.Goals as goal

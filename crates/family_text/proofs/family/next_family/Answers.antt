@@ -1,3 +1,4 @@
+-- The ledgers, then the end of the text or a family.
 use mathlib.Core.Path.{◌≡◌}
 use Prim.Native.Nat.{ℕ, ◌≤◌, ◌<◌}
 use native.Mathlib.Omega.{arith}

@@ -1,3 +1,4 @@
+-- By the tests: a line that is not ended, one that is malformed, a header.
 use mathlib.Core.Path.{sym}
 use native.Mathlib.Omega.{arith}
 use Rattle.line_text.proofs.Readings.{line_cut}

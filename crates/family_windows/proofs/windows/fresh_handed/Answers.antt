@@ -1,3 +1,4 @@
+-- A fresh ledger, 1,920 zeros, sample 0.
 use Rattle.std.proofs.Common.{refl}
 use Rattle.family_windows.proofs.windows.fresh_handed.Goals as goal
 

@@ -1,3 +1,4 @@
+-- Nothing of a family that was called; else how it ended, and its records.
 use borrow.Author.Tests.{eq-eqb, ne_eqb}
 use Rattle.table_text.proofs.Stores.{none_stored, stored_then}
 use Rattle.handover_text.specs.Handover.{ended_text, rejections_text, handover_text}

@@ -1,3 +1,4 @@
+-- The words by the kind; the kinds before it are excluded one by one.
 use mathlib.Core.List.{[], ◌∷◌}
 use borrow.Author.Tests.{eq-eqb, ne_eqb}
 use Rattle.table_text.specs.Text.{bytes_of}

@@ -1,3 +1,4 @@
+-- The name by the number.
 use mathlib.Core.List.{[]}
 use mathlib.Core.Path.{◌≡◌}
 use Prim.Native.Nat.{ℕ, ◌≤◌}

@@ -1,3 +1,4 @@
+-- A line with three runs of stores for its fields.
 use mathlib.Core.List.{[], ◌∷◌, ◌++◌}
 use Rattle.table_text.specs.Text.{bytes_of}
 use Rattle.table_text.proofs.Stores.{stored_then}

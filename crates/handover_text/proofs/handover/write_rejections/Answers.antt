@@ -1,3 +1,4 @@
+-- Each place's line after what is stored of those before it.
 use native.Mathlib.Omega.{arith}
 use Rattle.handover_text.specs.Handover.{rejections_text}
 use Rattle.table_text.proofs.Storing.{storing_none, storing_more, storing_all}

@@ -1,3 +1,4 @@
+-- Five lines, each from where the one before ends.
 use mathlib.Core.List.{[], ◌∷◌, ◌++◌}
 use Rattle.table_text.specs.Text.{bytes_of}
 use Rattle.table_text.proofs.Stores.{stored_then}

@@ -1,3 +1,4 @@
+-- Five lines with the reasons among them, each from where the lines before end.
 use mathlib.Core.List.{[], ◌∷◌, ◌++◌}
 use Rattle.table_text.specs.Text.{bytes_of}
 use Rattle.table_text.proofs.Stores.{stored_then}

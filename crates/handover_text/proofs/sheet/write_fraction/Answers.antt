@@ -1,3 +1,4 @@
+-- The whole part behind a space, then the point and six digits.
 use mathlib.Core.List.{List, [], ◌∷◌}
 use Prim.Native.Nat.{ℕ, ◌/◌}
 use native.Mathlib.Omega.{arith}

@@ -1,3 +1,4 @@
+-- The variant decides which lines are written.
 use mathlib.Core.List.{◌++◌}
 use Rattle.table_text.specs.Text.{bytes_of}
 use Rattle.table_text.proofs.Stores.{stored_then}

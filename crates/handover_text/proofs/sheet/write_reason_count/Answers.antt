@@ -1,3 +1,4 @@
+-- A line whose words are the name, and whose fields the colon and the count.
 use mathlib.Core.List.{[], ◌∷◌, ◌++◌}
 use Rattle.table_text.specs.Text.{bytes_of}
 use Rattle.table_text.proofs.Stores.{stored_then}

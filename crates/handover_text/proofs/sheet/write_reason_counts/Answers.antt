@@ -1,3 +1,4 @@
+-- The count of each reason after what is stored of those before it.
 use native.Mathlib.Omega.{arith}
 use Rattle.handover_text.specs.Sheet.{reasons_text}
 use Rattle.table_text.proofs.Storing.{storing_none, storing_more, storing_all}

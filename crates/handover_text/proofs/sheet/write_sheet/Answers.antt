@@ -1,3 +1,4 @@
+-- Three runs of stores, each from where the one before ends.
 use mathlib.Core.List.{◌++◌}
 use Rattle.codec_stats.specs.Ledger.{rates_of}
 use Rattle.table_text.proofs.Stores.{stored_then}

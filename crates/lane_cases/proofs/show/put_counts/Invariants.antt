@@ -1,3 +1,4 @@
+-- Every count is written once.
 use Rattle.std.proofs.Common.{◌-◌, ◌≤◌}
 use Rattle.lane_cases.proofs.show.put_counts.Given as goal
 

@@ -1,3 +1,4 @@
+-- Every byte is read once.
 use Rattle.std.proofs.Common.{◌-◌, ◌≤◌, length}
 use Rattle.lane_cases.proofs.text.number_in.Given as goal
 

@@ -1,3 +1,4 @@
+-- A line that sets something passed puts what it sets in place of what was handed before it.
 use mathlib.Core.Path.{sym, ◌∙◌}
 use native.Mathlib.Omega.{arith}
 use Rattle.ledger_lines.proofs.Figures.{ledgers_end, ledgers_last, ledgers_told}

@@ -1,3 +1,4 @@
+-- The layout is twenty numbers.
 use Rattle.ledger_lines.specs.Settings.{figures_of}
 use Rattle.ledger_lines.proofs.settings.figures_at.Goals as goal
 

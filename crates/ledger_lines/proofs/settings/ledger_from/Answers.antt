@@ -1,3 +1,4 @@
+-- The figures in their order.
 use borrow.Author.Rules.{rules}
 use Rattle.lists.specs.Tabulate.{tabulate}
 use Rattle.ledger_lines.specs.Settings.{ledger_from}

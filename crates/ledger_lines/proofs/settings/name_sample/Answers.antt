@@ -1,3 +1,4 @@
+-- One number of 32 bits, and no field after it.
 use mathlib.Core.Path.{sym}
 use native.Mathlib.Omega.{arith}
 use Rattle.table_text.proofs.FieldLists.{fields_none, fields_some, number_field_le}

@@ -1,3 +1,4 @@
+-- The tags in turn.
 use Rattle.ledger_lines.specs.Settings.{setting_of}
 use Rattle.ledger_lines.proofs.settings.read_setting.Goals as goal
 

@@ -1,3 +1,4 @@
+-- By whether the figures are well formed.
 use Rattle.ledger_lines.specs.Settings.{run_set}
 use Rattle.ledger_lines.proofs.settings.set_run.Goals as goal
 

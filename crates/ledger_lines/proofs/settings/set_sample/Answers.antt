@@ -1,3 +1,4 @@
+-- The sample's number, which has a ledger, and then its figures.
 use mathlib.Core.Path.{sym}
 use native.Mathlib.Omega.{arith}
 use Rattle.table_text.proofs.FieldLists.{number_field_le}

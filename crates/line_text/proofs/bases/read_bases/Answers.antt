@@ -1,3 +1,4 @@
+-- By the tests: no field, another field, an empty one, one that is too long, the bases.
 use mathlib.Core.Bool.{cond, ◌&&◌, and-false}
 use mathlib.Core.List.{List}
 use mathlib.Core.Path.{◌≡◌}

@@ -1,3 +1,4 @@
+-- The column holds the values of the fields passed; the fields left are those of the kinds and limits left.
 use mathlib.Core.Bool.{true, false}
 use mathlib.Core.List.{List, [], ◌∷◌, ◌++◌, append-nil}
 use mathlib.Core.Path.{◌≡◌, refl, sym, ◌∙◌, ap}

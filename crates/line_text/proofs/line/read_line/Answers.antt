@@ -1,3 +1,4 @@
+-- The tag, then the fields behind it.
 use Rattle.line_text.specs.Line.{line_of}
 use Rattle.line_text.proofs.line.read_line.Goals as goal
 

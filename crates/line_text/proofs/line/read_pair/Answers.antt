@@ -1,3 +1,4 @@
+-- The first field goes up to the first space or the end; it is the tag where it is those two bytes.
 use mathlib.Core.Bool.{cond}
 use mathlib.Core.List.{List, [], ◌∷◌}
 use mathlib.Core.Path.{◌≡◌, refl, sym, ◌∙◌}

@@ -1,3 +1,4 @@
+-- The count is that of the lines that end before the place reached.
 use mathlib.Core.List.{List}
 use mathlib.Core.Path.{◌≡◌, refl, sym, ◌∙◌}
 use Prim.Native.Nat.{ℕ, ◌+◌}

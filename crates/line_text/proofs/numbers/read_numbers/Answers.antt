@@ -1,3 +1,4 @@
+-- The tag, then the numbers behind it.
 use mathlib.Core.Path.{refl}
 use Rattle.line_text.specs.Numbers.{numbers_line}
 use Rattle.line_text.proofs.numbers.read_numbers.Goals as goal

@@ -1,3 +1,4 @@
+-- A lone `-` is none where the kind allows it; digits after it are a number below 0 where the kind has a sign.
 use mathlib.Core.Bool.{cond}
 use mathlib.Core.List.{List, [], ◌∷◌}
 use mathlib.Core.Path.{◌≡◌, refl, sym, ◌∙◌}

@@ -1,3 +1,4 @@
+-- By the tests: not a number, 0, too far below, a number below 0.
 use mathlib.Core.Bool.{true, and-false}
 use mathlib.Core.Path.{◌≡◌, sym}
 use Prim.Native.Nat.{ℕ, ◌+◌, ◌-◌, ◌≤◌, ◌<◌}

@@ -1,3 +1,4 @@
+-- The field goes up to the next space or the end, and is read by its kind.
 use Rattle.table_text.proofs.FieldLists.{fields_none, fields_next}
 use Rattle.line_text.specs.Value.{value_field}
 use Rattle.line_text.proofs.value.read_field.Goals as goal

@@ -1,3 +1,4 @@
+-- The first byte decides: a `-`, or a number.
 use mathlib.Core.Bool.{cond}
 use mathlib.Core.List.{List, [], ◌∷◌}
 use mathlib.Core.Path.{◌≡◌, refl, sym, ◌∙◌}

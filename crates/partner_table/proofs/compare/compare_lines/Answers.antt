@@ -1,3 +1,4 @@
+-- The first wrong line of both tables is that of the lines left.
 use mathlib.Core.List.{List}
 use mathlib.Core.Path.{◌≡◌, sym, ◌∙◌, ap}
 use Prim.Native.Nat.{ℕ, ◌+◌}

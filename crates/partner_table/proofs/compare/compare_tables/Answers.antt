@@ -1,3 +1,4 @@
+-- The lines are counted, and then compared from where the names end.
 use mathlib.Core.Path.{◌≡◌, sym, ◌∙◌}
 use Rattle.codec_duplex.specs.declared.position.Position.{Position}
 use Rattle.table_text.specs.InputTable.{Reading}

@@ -1,3 +1,4 @@
+-- The fields are asked in their order.
 use mathlib.Core.Path.{◌≡◌}
 use borrow.Author.Tests.{eq-eqb, ne_eqb}
 use Rattle.codec_duplex.specs.declared.position.Position.{Position}

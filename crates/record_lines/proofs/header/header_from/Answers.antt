@@ -1,3 +1,4 @@
+-- The fields before and after the options.
 use Rattle.record_lines.specs.Header.{header_from}
 use Rattle.record_lines.proofs.header.header_from.Goals as goal
 

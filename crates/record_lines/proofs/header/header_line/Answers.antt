@@ -1,3 +1,4 @@
+-- The values of a well-formed line fit its layout.
 use Rattle.line_text.proofs.Fits.{fit_line}
 use Rattle.record_lines.specs.Header.{header_kinds, header_limits, header_of}
 use Rattle.record_lines.proofs.header.header_line.Goals as goal

@@ -1,3 +1,4 @@
+-- A pattern whose exponent is not all ones, or whose digits are 0, is no NaN; the others are the one NaN, which 0 / 0 is.
 use mathlib.Core.Bool.{not, and-false}
 use mathlib.Core.Path.{◌≡◌, refl, ◌∙◌}
 use Prim.Native.Nat.{ℕ, ◌%◌, ◌/◌}

@@ -1,3 +1,4 @@
+-- Below 0 the number is -1 less the magnitude before.
 use mathlib.Core.Path.{◌≡◌, refl, ap}
 use Prim.Native.Nat.{ℕ, zero, suc, ◌-◌}
 use native.Mathlib.Nat.{zero-add}

@@ -1,3 +1,4 @@
+-- Each value fits its field, since the layout limits it.
 use mathlib.Core.Bool.{Bool, true, false, cond}
 use Prim.Native.Nat.{◌-◌}
 use native.Mathlib.Omega.{arith}

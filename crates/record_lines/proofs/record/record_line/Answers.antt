@@ -1,3 +1,4 @@
+-- The values of a well-formed line fit its layout.
 use Rattle.line_text.proofs.Fits.{fit_line}
 use Rattle.record_lines.specs.Record.{record_kinds, record_limits, record_of}
 use Rattle.record_lines.proofs.record.record_line.Goals as goal

@@ -1,3 +1,4 @@
+-- The table holds the records of the lines passed; the lines left are those of the records left.
 use mathlib.Core.List.{[], ◌∷◌, ◌++◌}
 use mathlib.Core.Path.{◌≡◌, refl, sym, ◌∙◌, ap}
 use Prim.Native.Nat.{◌+◌}

@@ -1,3 +1,4 @@
+-- The counts that were copied are those of the array.
 use mathlib.Core.Path.{◌∙◌}
 use Prim.Native.Nat.{ℕ, ◌+◌, ◌*◌}
 use lib.ListN.{get_or}

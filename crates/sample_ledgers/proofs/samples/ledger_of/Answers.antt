@@ -1,3 +1,4 @@
+-- Twenty places, one by one.
 use mathlib.Core.Path.{refl}
 use Rattle.lists.specs.Tabulate.{tabulate}
 use Rattle.sample_ledgers.specs.Samples.{ledger_by}

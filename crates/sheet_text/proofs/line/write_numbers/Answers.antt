@@ -1,3 +1,4 @@
+-- Storing the numbers left from where the line ends gives what storing all of them gives.
 use mathlib.Core.Bool.{cond}
 use lib.Dec.{eqb}
 use Rattle.table_text.specs.Text.{space, line_feed}

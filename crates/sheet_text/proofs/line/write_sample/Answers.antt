@@ -1,3 +1,4 @@
+-- No line without a family; else nine numbers, in at most 118 bytes.
 use mathlib.Core.List.{List, [], ◌∷◌}
 use mathlib.Core.Path.{◌≡◌, ◌∙◌, ap}
 use Prim.Native.Nat.{ℕ, ◌+◌}

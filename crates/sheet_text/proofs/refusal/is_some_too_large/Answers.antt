@@ -1,3 +1,4 @@
+-- All samples that were passed are within the limits, so those left decide.
 use mathlib.Core.Bool.{not, Bool}
 use mathlib.Core.List.{List}
 use mathlib.Core.Path.{◌≡◌, sym, ◌∙◌, ap}

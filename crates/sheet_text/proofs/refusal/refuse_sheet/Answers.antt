@@ -1,3 +1,4 @@
+-- Lowest number first.
 use Rattle.sheet_text.specs.Sheet.{sheet_refusal}
 use Rattle.sheet_text.proofs.refusal.refuse_sheet.Goals as goal
 

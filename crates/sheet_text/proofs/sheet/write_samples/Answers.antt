@@ -1,3 +1,4 @@
+-- The text of each sample after what is stored of those before it.
 use native.Mathlib.Omega.{arith}
 use Rattle.table_text.proofs.Storing.{storing_none, storing_more, storing_all}
 use Rattle.sheet_text.specs.SheetText.{samples_text}

@@ -1,3 +1,4 @@
+-- The names, and then the lines where the names end.
 use native.Mathlib.Omega.{arith}
 use Rattle.table_text.proofs.Stores.{written_then}
 use Rattle.sheet_text.specs.SheetText.{sheet_names, samples_text, sheet_text}

@@ -1,3 +1,4 @@
+-- The places passed are those of the wide column.
 use mathlib.Core.Path.{refl}
 use native.Mathlib.Omega.{arith}
 use borrow.Author.Rules.{rules}

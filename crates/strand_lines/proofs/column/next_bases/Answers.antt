@@ -1,3 +1,4 @@
+-- By the tests: a line that is not ended, one that is malformed, one whose bases are copied.
 use mathlib.Core.Path.{sym}
 use native.Mathlib.Omega.{arith}
 use Rattle.lists.proofs.Written.{take_count}

@@ -1,3 +1,4 @@
+-- A strand that is not there takes no line and has no columns.
 use Rattle.strand_lines.specs.Strands.{strand_if}
 use Rattle.strand_lines.proofs.strands.next_strand.Goals as goal
 

@@ -1,3 +1,4 @@
+-- Four columns, each read where the one before it ends.
 use Rattle.codec_duplex.specs.Columns.{strand}
 use Rattle.line_text.proofs.Readings.{steps_mapped, steps_applied}
 use Rattle.strand_lines.specs.Strands.{strand_from}

@@ -1,3 +1,4 @@
+-- By the tests: a line that is not ended, one that is malformed, as many words as announced, another number of them.
 use mathlib.Core.Path.{◌≡◌, sym}
 use native.Mathlib.Omega.{arith}
 use borrow.Author.Tests.{eq-eqb, ne_eqb}

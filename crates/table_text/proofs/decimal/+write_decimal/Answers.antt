@@ -1,3 +1,4 @@
+-- By recursion on the number without its last digit.
 use Rattle.std.proofs.Common.{◌≡◌, ◌+◌, ◌≤◌, ◌<◌, length, ℕ, ◌/◌, ◌%◌, ◌∙◌, refl, [], ◌∷◌, ap, ◌^◌, arith}
 use Rattle.std.proofs.Math.ListN.{length-append}
 use Rattle.lists.proofs.Sets.{sets_append}

@@ -1,3 +1,4 @@
+-- The first byte, and then the digits.
 use Rattle.table_text.specs.Decimal.{number}
 use Rattle.table_text.proofs.decimal.read_decimal.Goals as goal
 

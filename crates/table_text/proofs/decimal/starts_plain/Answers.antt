@@ -1,3 +1,4 @@
+-- By the length of the field: none, one, more.
 use mathlib.Core.Bool.{true, false, not}
 use mathlib.Core.List.{List, [], ◌∷◌}
 use mathlib.Core.Path.{◌≡◌, refl}

@@ -1,3 +1,4 @@
+-- A table that the check finds well formed is written; of any other the buffer is not lent on.
 use mathlib.Core.Path.{◌≡◌, refl, sym, ◌∙◌, ap}
 use lib.ListN.{length}
 use Rattle.table_text.specs.Duplex.{answer_at, table_answer}

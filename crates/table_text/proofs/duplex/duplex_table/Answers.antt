@@ -1,3 +1,4 @@
+-- The answer's refusal decides which text is written.
 use mathlib.Core.List.{List}
 use mathlib.Core.Path.{◌≡◌, sym, ap}
 use Prim.Native.Nat.{ℕ, ◌≤◌}

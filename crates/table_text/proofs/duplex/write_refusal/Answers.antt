@@ -1,3 +1,4 @@
+-- The words, and then the line's number where they end.
 use mathlib.Core.List.{List, [], ◌∷◌, ◌++◌}
 use mathlib.Core.Path.{◌≡◌, refl}
 use Prim.Native.Nat.{ℕ, ◌^◌, ◌≤◌, ◌<◌}

@@ -1,3 +1,4 @@
+-- The field goes up to the next space or the end; one byte of it is read where it is one byte long.
 use mathlib.Core.Bool.{cond}
 use mathlib.Core.List.{List, [], ◌∷◌}
 use mathlib.Core.Path.{◌≡◌, refl, sym, ◌∙◌}

@@ -1,3 +1,4 @@
+-- The field goes up to the next space or the end, and is read as a decimal.
 use Rattle.table_text.specs.Fields.{number_field}
 use Rattle.table_text.proofs.FieldLists.{fields_none, fields_next}
 use Rattle.table_text.proofs.fields.read_number.Goals as goal

@@ -1,3 +1,4 @@
+-- The names that were read, as the input table's.
 use mathlib.Core.List.{List}
 use Prim.Native.Nat.{ℕ}
 use Rattle.table_text.specs.InputTable.{input_names, input_line, table_of, InputNames}

@@ -1,3 +1,4 @@
+-- The ending of the table is that of the lines left.
 use mathlib.Core.Path.{sym, ◌∙◌, ap}
 use Rattle.table_text.specs.InputTable.{Reading, input_line}
 use Rattle.table_text.proofs.Tables.{table_end}

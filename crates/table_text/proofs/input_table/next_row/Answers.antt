@@ -1,3 +1,4 @@
+-- A line that may hold a row; and what it says.
 use Rattle.table_text.specs.InputTable.{input_line}
 use Rattle.table_text.specs.Reading.{LineRead}
 use Rattle.table_text.specs.declared.reading.LineEnd.TheVariants.{At}

@@ -1,3 +1,4 @@
+-- The names that were read, as the output table's.
 use Rattle.table_text.specs.OutputReading.{partner_names, position_line}
 use Rattle.table_text.proofs.Tables.{names_said}
 use Rattle.table_text.proofs.output_reading.after_names.Goals as goal

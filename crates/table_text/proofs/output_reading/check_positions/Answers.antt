@@ -1,3 +1,4 @@
+-- The ending of the table is that of the lines left.
 use mathlib.Core.Path.{sym, ◌∙◌, ap}
 use Rattle.table_text.specs.OutputReading.{position_line}
 use Rattle.table_text.specs.Reading.{Table}

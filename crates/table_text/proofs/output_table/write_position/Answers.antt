@@ -1,3 +1,4 @@
+-- Four runs of stores, each from where the one before ends.
 use mathlib.Core.List.{List, [], ◌∷◌, ◌++◌}
 use mathlib.Core.Path.{refl}
 use Prim.Native.Nat.{ℕ, ◌+◌}

@@ -1,3 +1,4 @@
+-- Storing the rows left from where the output ends gives what storing all of them gives.
 use mathlib.Core.List.{List, []}
 use mathlib.Core.Path.{◌≡◌, sym, ◌∙◌, ap}
 use Prim.Native.Nat.{ℕ, ◌+◌}

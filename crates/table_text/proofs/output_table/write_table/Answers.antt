@@ -1,3 +1,4 @@
+-- The names, and then the rows where the names end.
 use mathlib.Core.List.{◌++◌}
 use mathlib.Core.Path.{◌≡◌, ap}
 use native.Mathlib.Omega.{arith}

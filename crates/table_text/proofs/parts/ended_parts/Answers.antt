@@ -1,3 +1,4 @@
+-- The parts that are ended are those counted and those left.
 use mathlib.Core.List.{List}
 use mathlib.Core.Path.{◌≡◌}
 use Prim.Native.Nat.{ℕ, suc, ◌+◌, ◌≤◌}

@@ -1,3 +1,4 @@
+-- The whole text from the place on is searched.
 use Rattle.std.proofs.Common.{length, ◌-◌, ◌≡◌, ◌+◌, ◌≤◌, drop}
 use Rattle.table_text.specs.Bytes.{index_of}
 use Rattle.table_text.proofs.parts.part_end.Given as goal

@@ -1,3 +1,4 @@
+-- After the position there is a field exactly where its end is not past the line's.
 use Rattle.table_text.specs.OutputReading.{position_line}
 use Rattle.table_text.proofs.FieldLists.{fields_none, fields_whole, fields_some}
 use Rattle.table_text.proofs.position.read_alone.Goals as goal

@@ -1,3 +1,4 @@
+-- Each field that is read leaves the fields after it; the first that is malformed makes the position so.
 use mathlib.Core.List.{List}
 use mathlib.Core.Path.{◌≡◌, sym, ◌∙◌, ap}
 use Prim.Native.Nat.{ℕ, ◌≤◌}

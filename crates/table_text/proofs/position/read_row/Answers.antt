@@ -1,3 +1,4 @@
+-- After the second position there is a field exactly where its end is not past the line's.
 use Rattle.table_text.specs.Rows.{row_of}
 use Rattle.table_text.proofs.FieldLists.{fields_none, fields_whole, fields_some}
 use Rattle.table_text.proofs.position.read_row.Goals as goal

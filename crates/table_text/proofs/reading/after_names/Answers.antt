@@ -1,3 +1,4 @@
+-- The first line goes up to the first line feed; it is compared with the names byte by byte.
 use mathlib.Core.List.{List}
 use mathlib.Core.Path.{◌≡◌, sym, ◌∙◌}
 use Prim.Native.Nat.{ℕ, ◌<◌, ◌-◌}

@@ -1,3 +1,4 @@
+-- By the tests: a line past the last, a line without its line feed, a line that may hold a row.
 use mathlib.Core.Bool.{false}
 use mathlib.Core.Path.{◌≡◌, refl}
 use Prim.Native.Nat.{ℕ, ◌<◌}

@@ -1,3 +1,4 @@
+-- The order, the founder of the winning group, and the records of its group.
 use mathlib.Core.Path.{◌≡◌, sym}
 use borrow.Author.Tests.{lt-ltb, le-ltb}
 use lib.ListN.{length, take}
