@@ -1,49 +1,74 @@
 -- Laws of a family's answer, written part by part.
-use mathlib.Core.Bool.{true, false}
-use mathlib.Core.List.{List, [], ◌++◌}
-use mathlib.Core.Path.{◌≡◌}
-use Prim.Native.Nat.{ℕ}
-use lib.ListN.{take}
-use Rattle.codec_family.specs.Answer.{says_called, says_refused}
+use Rattle.std.proofs.Common.{◌≡◌, ℕ, List, [], ◌++◌, refl, take}
 use Rattle.codec_family.specs.Call.{Lent}
-use Rattle.codec_family.specs.declared.answer.FamilyAnswer.{FamilyAnswer}
+use Rattle.codec_family.specs.declared.answer.Answer.{Answer}
+use Rattle.codec_family.specs.declared.ending.Ending.{Ending}
+use Rattle.codec_family.specs.declared.ending.Ending.TheVariants.{Called, Empty, NoStrand, Rejected, Disagreeing, Refused}
 use Rattle.table_text.specs.OutputTable.{Stored}
 use Rattle.table_text.specs.Text.{bytes_of}
 use Rattle.table_text.proofs.Stores.{none_stored, stored_then}
-use Rattle.answer_text.specs.FamilyText.{ending_text, list_text, ledger_text, columns_text, results_text, family_text}
+use Rattle.answer_text.specs.FamilyText.{ending_text, list_text, columns_text, listed_unless_refused, called_text, ledger_text, family_text}
 use Rattle.answer_text.specs.Line.{line_text}
 
-module _ (answer : FamilyAnswer) (lent : Lent) (old : List ℕ) (to : ℕ) where
-  -- how it ends, the results, the ledger
-  pub family_stored : {at_results at-ledger new : List ℕ} {first last after : ℕ}
-      → Stored (ending_text answer.ending) old to at_results first
-      → Stored (results_text answer lent) at_results first at-ledger last
-      → Stored (ledger_text answer.ledger) at-ledger last new after
+-- nothing is left out of an answer that is no refusal
+listed_by : (e : Ending) (listed : ℕ) (lent : Lent) → ((number given : ℕ) → e ≡ Refused number given → ⊥)
+    → listed_unless_refused e listed lent ≡ list_text listed lent.listed_records lent.listed_reasons ++ line_text (bytes_of "M") (take 8 lent.marks)
+listed_by (Called length) listed lent taken = refl
+listed_by Empty listed lent taken = refl
+listed_by NoStrand listed lent taken = refl
+listed_by (Rejected reason) listed lent taken = refl
+listed_by (Disagreeing limit) listed lent taken = refl
+listed_by (Refused number given) listed lent taken = absurd (taken number given refl)
+
+-- no columns stand behind a family that is not called
+uncalled : (e : Ending) (lent : Lent) → ((length : ℕ) → e ≡ Called length → ⊥) → called_text e lent ≡ []
+uncalled (Called length) lent none = absurd (none length refl)
+uncalled Empty lent none = refl
+uncalled NoStrand lent none = refl
+uncalled (Rejected reason) lent none = refl
+uncalled (Disagreeing limit) lent none = refl
+uncalled (Refused number given) lent none = refl
+
+module _ (answer : Answer) (lent : Lent) (old : List ℕ) (to : ℕ) where
+  -- how it ends, the list and the marks, the columns, the ledger
+  parts_stored : (listed columns : List ℕ) → listed_unless_refused answer.ending answer.listed lent ≡ listed → called_text answer.ending lent ≡ columns
+      → {at_list at_columns at_ledger new : List ℕ} {first second third after : ℕ}
+      → Stored (ending_text answer.ending) old to at_list first
+      → Stored listed at_list first at_columns second
+      → Stored columns at_columns second at_ledger third
+      → Stored (ledger_text answer.ledger) at_ledger third new after
       → Stored (family_text answer lent) old to new after
   unfolding family_text
-  family_stored {at_results} {at-ledger} {new} {first} {last} {after} ending results ledger =
-      stored_then (ending_text answer.ending) (results_text answer lent ++ ledger_text answer.ledger) old to ending (stored_then (results_text answer lent) (ledger_text answer.ledger) at_results first results ledger)
+  parts_stored listed columns e f ending list column ledger =
+      let last = stored_then columns (ledger_text answer.ledger) _ _ column ledger in
+      let later = stored_then listed (columns ++ ledger_text answer.ledger) _ _ list last in
+      rw (e, f) (stored_then (ending_text answer.ending) (listed ++ (columns ++ ledger_text answer.ledger)) old to ending later)
 
-  -- after a refusal
-  pub results_refused : says_refused answer.ending ≡ true → Stored (results_text answer lent) old to old to
-  unfolding results_text
-  results_refused refused = rw refused (none_stored old to)
+  pub refused_stored : (number given : ℕ) → answer.ending ≡ Refused number given → {at_ledger new : List ℕ} {first after : ℕ}
+      → Stored (ending_text answer.ending) old to at_ledger first
+      → Stored (ledger_text answer.ledger) at_ledger first new after
+      → Stored (family_text answer lent) old to new after
+  refused_stored number given e ending ledger = parts_stored [] [] (rw e refl) (rw e refl) ending (none_stored _ _) (none_stored _ _) ledger
 
-  module _ (taken : says_refused answer.ending ≡ false) {at-marks at-columns : List ℕ} {marks columns : ℕ}
-      (list : Stored (list_text answer.listed lent.listed_records lent.listed_reasons) old to at-marks marks)
-      (words : Stored (line_text (bytes_of "M") (take 8 lent.marks)) at-marks marks at-columns columns) where
-    with_columns : (text : List ℕ) {new : List ℕ} {after : ℕ} → Stored text at-columns columns new after
-        → Stored (list_text answer.listed lent.listed_records lent.listed_reasons ++ (line_text (bytes_of "M") (take 8 lent.marks) ++ text)) old to new after
-    with_columns text stored =
-        stored_then (list_text answer.listed lent.listed_records lent.listed_reasons) (line_text (bytes_of "M") (take 8 lent.marks) ++ text) old to list
-        (stored_then (line_text (bytes_of "M") (take 8 lent.marks)) text at-marks marks words stored)
+  module _ (taken : (number given : ℕ) → answer.ending ≡ Refused number given → ⊥) {at_list at_marks at_columns : List ℕ} {first second third : ℕ}
+      (ending : Stored (ending_text answer.ending) old to at_list first)
+      (list : Stored (list_text answer.listed lent.listed_records lent.listed_reasons) at_list first at_marks second)
+      (marks : Stored (line_text (bytes_of "M") (take 8 lent.marks)) at_marks second at_columns third) where
+    with_columns : (columns : List ℕ) → called_text answer.ending lent ≡ columns → {at_ledger new : List ℕ} {fourth after : ℕ}
+        → Stored columns at_columns third at_ledger fourth
+        → Stored (ledger_text answer.ledger) at_ledger fourth new after
+        → Stored (family_text answer lent) old to new after
+    with_columns columns f column ledger =
+        let listed = stored_then (list_text answer.listed lent.listed_records lent.listed_reasons) (line_text (bytes_of "M") (take 8 lent.marks)) at_list first list marks in
+        parts_stored (list_text answer.listed lent.listed_records lent.listed_reasons ++ line_text (bytes_of "M") (take 8 lent.marks)) columns (listed_by answer.ending answer.listed lent taken) f ending listed column ledger
 
-    -- of a family that is not called
-    pub results_listed : says_called answer.ending ≡ false → Stored (results_text answer lent) old to at-columns columns
-    unfolding results_text
-    results_listed uncalled = rw (taken, uncalled) (with_columns [] (none_stored at-columns columns))
+    pub uncalled_stored : ((length : ℕ) → answer.ending ≡ Called length → ⊥) → {new : List ℕ} {after : ℕ}
+        → Stored (ledger_text answer.ledger) at_columns third new after
+        → Stored (family_text answer lent) old to new after
+    uncalled_stored none ledger = with_columns [] (uncalled answer.ending lent none) (none_stored _ _) ledger
 
-    -- of a family that is called
-    pub results_called : says_called answer.ending ≡ true → {new : List ℕ} {after : ℕ} → Stored (columns_text answer.ending.length lent.duplex lent.r1 lent.r2) at-columns columns new after → Stored (results_text answer lent) old to new after
-    unfolding results_text
-    results_called called stored = rw (taken, called) (with_columns (columns_text answer.ending.length lent.duplex lent.r1 lent.r2) stored)
+    pub called_stored : (length : ℕ) → answer.ending ≡ Called length → {at_ledger new : List ℕ} {fourth after : ℕ}
+        → Stored (columns_text length lent.duplex lent.r1 lent.r2) at_columns third at_ledger fourth
+        → Stored (ledger_text answer.ledger) at_ledger fourth new after
+        → Stored (family_text answer lent) old to new after
+    called_stored length e column ledger = with_columns (columns_text length lent.duplex lent.r1 lent.r2) (rw e refl) column ledger

@@ -1,17 +1,14 @@
 -- Laws of a line, written part by part.
-use mathlib.Core.List.{List, [], ◌∷◌, ◌++◌, append_assoc, append-nil}
-use mathlib.Core.Path.{◌≡◌, sym}
-use Prim.Native.Nat.{ℕ, zero, suc, ◌+◌, ◌-◌, ◌^◌, ◌≤◌, ◌<◌}
-use native.Mathlib.Omega.{arith}
+use Rattle.std.proofs.Common.{◌≡◌, ℕ, ◌+◌, ◌-◌, ◌*◌, ◌≤◌, ◌<◌, List, [], ◌∷◌, ◌++◌, append_assoc, append-nil, refl, arith, length, get_or, take, drop, length-drop, mul-add}
+use Rattle.std.proofs.lemmas.List.{take_more, take_all, drop-drop}
+use Rattle.std.proofs.lemmas.List.Concat.{flat_map-append}
 use borrow.Rule.Slice.PartMut.{mid_of, put_mid}
-use lib.ListN.{length, get_or, drop, length-drop, drop_of_length-le}
-use lib.Seq.{sets, sets-eq, take_all, drop-drop}
+use lib.ListN.{drop_of_length-le}
+use lib.Seq.{sets, sets-eq}
 use Rattle.table_text.specs.Decimal.{decimal}
 use Rattle.table_text.specs.OutputTable.{Stored}
-use Rattle.table_text.proofs.Decimals.{length-decimal}
 use Rattle.table_text.proofs.Stores.{stored_then}
-use Rattle.table_text.specs.Texts.{texts}
-use Rattle.answer_text.specs.Line.{fields_text, line_with}
+use Rattle.answer_text.specs.Line.{fields_by, fields_text, line_with}
 
 -- a text copied to the front of the part that begins at a place is stored there
 pub copied_stored : (text old new : List ℕ) (to : ℕ) → to + length text ≤ length old → new ≡ text ++ drop (length text) (mid_of to (length old - to) old)
@@ -21,24 +18,27 @@ copied_stored text old new to h e =
     let after : drop (length old - to) (drop to old) ≡ [] = drop_of_length-le (drop to old) {i = length old - to} (simp length-drop (omega arith)) in
     rw (e, whole, after, append-nil, drop-drop, sets-eq text old to h, append_assoc)
 
--- the text at the first place, and those after it
-texts_first : (at : ℕ → List ℕ) (n : ℕ) → texts at (suc n) ≡ at 0 ++ texts (λ i. at (suc i)) n
-unfolding texts
-texts_first at zero = sym (append-nil (at 0))
-texts_first at (suc n) = rw (texts_first at n) (append_assoc (at 0) (texts (λ i. at (suc i)) n) (at (suc n)))
-
 -- a number and those after it
 pub fields_first : (n : ℕ) (numbers : List ℕ) → fields_text (n ∷ numbers) ≡ (32 ∷ decimal n) ++ fields_text numbers
-unfolding fields_text
-fields_first n numbers = texts_first (λ i. 32 ∷ decimal (get_or (n ∷ numbers) i 0)) (length numbers)
+unfolding fields_by
+fields_first n numbers = refl
 
--- the number at a place, after a space
-abbrev pub field_at : List ℕ → ℕ → List ℕ
-field_at numbers i = 32 ∷ decimal (get_or numbers i 0)
+-- the value at a place after those before it
+fields_more : {A : Type 0} (number : A → ℕ) (values : List A) (i : ℕ) (x : A) → i < length values → x ≡ get_or values i x
+    → fields_by number (take (i + 1) values) ≡ fields_by number (take i values) ++ (32 ∷ decimal (number x))
+unfolding fields_by
+fields_more number values i x h e =
+    let f = λ (y : _). 32 ∷ decimal (number y) in
+    rw (take_more values i x h, flat_map-append f (take i values) (get_or values i x ∷ []), append-nil, ← e) refl
 
--- one byte longer than its digits
-pub field_short : (k n : ℕ) → n < 10 ^ suc k → length (32 ∷ decimal n) ≤ suc (suc k)
-field_short k n h = omega (arith, length-decimal k n h)
+-- one more field is stored, each at most so wide
+pub fields_stored : {A : Type 0} (number : A → ℕ) (values : List A) (i widest : ℕ) (x : A) (old : List ℕ) (to : ℕ) {mid new : List ℕ} {end after : ℕ}
+    → i < length values → x ≡ get_or values i x → 1 + length (decimal (number x)) ≤ widest
+    → Stored (fields_by number (take i values)) old to mid end × (end ≤ to + widest * i)
+    → Stored (32 ∷ decimal (number x)) mid end new after
+    → Stored (fields_by number (take (i + 1) values)) old to new after × (after ≤ to + widest * (i + 1))
+fields_stored number values i widest x old to h e narrow before next =
+    (rw (fields_more number values i x h e) (stored_then (fields_by number (take i values)) (32 ∷ decimal (number x)) old to before.0 next), omega (arith, mul-add widest i 1, next.0, narrow, before.1))
 
 -- the words, the fields and the line feed
 pub line_stored : (words fields old : List ℕ) (to : ℕ) {at_fields at-end new : List ℕ} {first end after : ℕ}

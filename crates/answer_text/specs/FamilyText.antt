@@ -1,27 +1,30 @@
 -- The text form, 'Output, for each family'.
-use Rattle.std.specs.Prelude.{false, cond, List, [], ◌∷◌, ◌++◌, ◌≡◌, ℕ, ◌≤◌, eqb, length, get_or, take}
+use Rattle.std.specs.Prelude.{false, List, [], ◌∷◌, ◌++◌, ◌≡◌, ℕ, ◌≤◌, length, get_or, take}
 use Prim.Native.Char.{code}
+use Rattle.caller.specs.Reasons.{number_of}
+use Rattle.caller.specs.declared.reason.RejectionReason.TheVariants.{HighDuplexDisagreement}
 use Rattle.codec_duplex.specs.Columns.{Strand, strand}
 use Rattle.codec_duplex.specs.Duplex.{Duplex}
 use Rattle.codec_stats.specs.Ledger.{other_counts}
 use Rattle.codec_stats.specs.declared.ledger.Ledger.{Ledger}
-use Rattle.codec_family.specs.Answer.{called_number, empty_number, no_strand_number, rejected_number, says_called, says_refused}
 use Rattle.codec_family.specs.Call.{Lent}
-use Rattle.codec_family.specs.declared.answer.FamilyAnswer.{FamilyAnswer}
-use Rattle.codec_family.specs.declared.answer.FamilyEnding.{FamilyEnding}
+use Rattle.codec_family.specs.Ending.{is_refused, called_length}
+use Rattle.codec_family.specs.declared.answer.Answer.{Answer}
+use Rattle.codec_family.specs.declared.ending.Ending.{Ending}
+use Rattle.codec_family.specs.declared.ending.Ending.TheVariants.{Called, Empty, NoStrand, Rejected, Disagreeing, Refused}
 use Rattle.table_text.specs.Decimal.{decimal}
 use Rattle.table_text.specs.Text.{bytes_of, space}
 use Rattle.table_text.specs.Texts.{texts}
 use Rattle.answer_text.specs.Line.{line_with, line_text}
 
 -- `A called LENGTH | A empty | A nostrand | A rejected REASON | A refused NUMBER WITH`
-unfoldable pub ending_text : FamilyEnding → List ℕ
-ending_text e =
-    cond (eqb e.kind called_number) (line_text (bytes_of "A called") (e.length ∷ []))
-    (cond (eqb e.kind empty_number) (line_text (bytes_of "A empty") [])
-    (cond (eqb e.kind no_strand_number) (line_text (bytes_of "A nostrand") [])
-    (cond (eqb e.kind rejected_number) (line_text (bytes_of "A rejected") (e.number ∷ []))
-    (line_text (bytes_of "A refused") (e.number ∷ e.with ∷ [])))))
+unfoldable pub ending_text : Ending → List ℕ
+ending_text (Called length) = line_text (bytes_of "A called") (length ∷ [])
+ending_text Empty = line_text (bytes_of "A empty") []
+ending_text NoStrand = line_text (bytes_of "A nostrand") []
+ending_text (Rejected reason) = line_text (bytes_of "A rejected") (number_of reason ∷ [])
+ending_text (Disagreeing limit) = line_text (bytes_of "A rejected") (number_of HighDuplexDisagreement ∷ [])
+ending_text (Refused number given) = line_text (bytes_of "A refused") (number ∷ given ∷ [])
 
 -- `RECORD:REASON` after a space
 abbrev pub listed_text : (record' reason : ℕ) → List ℕ
@@ -52,18 +55,20 @@ unfoldable pub columns_text : (n : ℕ) → Duplex → (r1 r2 : Strand) → List
 columns_text n d r1 r2 =
     strand_text (code "D") n (strand d.bases d.quals d.depths d.errors) ++ (strand_text (code "1") n r1 ++ strand_text (code "2") n r2)
 
--- the list, `M w0 .. w7`, and 'only after `called`' the columns; 'After a refusal the lines `L` and `M` are left out'
-unfoldable pub results_text : FamilyAnswer → Lent → List ℕ
-results_text answer lent =
-    let e = answer.ending in
-    cond (says_refused e) []
-    (list_text answer.listed lent.listed_records lent.listed_reasons ++
-    (line_text (bytes_of "M") (take 8 lent.marks) ++
-    cond (says_called e) (columns_text e.length lent.duplex lent.r1 lent.r2) []))
+-- 'only after `called`' the columns
+abbrev pub called_text : Ending → Lent → List ℕ
+called_text (Called length) lent = columns_text length lent.duplex lent.r1 lent.r2
+called_text _ lent = []
+
+-- the list and `M w0 .. w7`; 'After a refusal the lines `L` and `M` are left out'
+abbrev pub listed_unless_refused : Ending → (listed : ℕ) → Lent → List ℕ
+listed_unless_refused (Refused number given) listed lent = []
+listed_unless_refused ending listed lent = list_text listed lent.listed_records lent.listed_reasons ++ line_text (bytes_of "M") (take 8 lent.marks)
 
 -- the answer of a family call, and what it left in the lent columns
-unfoldable pub family_text : FamilyAnswer → Lent → List ℕ
-family_text answer lent = ending_text answer.ending ++ (results_text answer lent ++ ledger_text answer.ledger)
+unfoldable pub family_text : Answer → Lent → List ℕ
+family_text answer lent =
+    ending_text answer.ending ++ (listed_unless_refused answer.ending answer.listed lent ++ (called_text answer.ending lent ++ ledger_text answer.ledger))
 
 -- n places are there in each of four columns
 pub record Holding (n : ℕ) (s : Strand) : Type 0 where
@@ -73,12 +78,12 @@ pub record Holding (n : ℕ) (s : Strand) : Type 0 where
   pub errors : n ≤ length s.errors
 
 -- the lent columns are as long as the answer says, and the answer within what a call can give
-pub record Answered (answer : FamilyAnswer) (lent : Lent) : Type 0 where
+pub record Answered (answer : Answer) (lent : Lent) : Type 0 where
   pub few : answer.listed ≤ 512
-  pub short : answer.ending.length ≤ 2048
+  pub short : called_length answer.ending ≤ 2048
   pub records : answer.listed ≤ length lent.listed_records
   pub reasons : answer.listed ≤ length lent.listed_reasons
-  pub marks : says_refused answer.ending ≡ false → 8 ≤ length lent.marks
-  pub duplex : Holding answer.ending.length (strand lent.duplex.bases lent.duplex.quals lent.duplex.depths lent.duplex.errors)
-  pub r1 : Holding answer.ending.length lent.r1
-  pub r2 : Holding answer.ending.length lent.r2
+  pub marks : is_refused answer.ending ≡ false → 8 ≤ length lent.marks
+  pub duplex : Holding (called_length answer.ending) (strand lent.duplex.bases lent.duplex.quals lent.duplex.depths lent.duplex.errors)
+  pub r1 : Holding (called_length answer.ending) lent.r1
+  pub r2 : Holding (called_length answer.ending) lent.r2

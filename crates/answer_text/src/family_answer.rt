@@ -8,7 +8,9 @@ ghost use Rattle.answer_text.specs.FamilyText.{ending_text, listed_text, listing
 
 use crate::columns::write_strand;
 use crate::line::{end_line, write_field, write_line, write_words};
-use codec_family::answer::{FamilyAnswer, FamilyEnding};
+use caller::reason::RejectionReason;
+use codec_family::answer::Answer;
+use codec_family::ending::Ending;
 use codec_stats::ledger::Ledger;
 use table_text::decimal;
 
@@ -16,36 +18,24 @@ use table_text::decimal;
 // places, and 422 for the ledger.
 pub const ANSWER_BYTES: usize = 112813;
 
-// The kinds of an ending, as the call gives them.
-pub const CALLED: u32 = 0;
-
-pub const EMPTY: u32 = 1;
-
-pub const NO_STRAND: u32 = 2;
-
-pub const REJECTED: u32 = 3;
-
-pub const REFUSED: u32 = 4;
-
-fn write_ending(ending: FamilyEnding, output: &mut [u8], to: usize) -> usize
+fn write_ending(ending: Ending, output: &mut [u8], to: usize) -> usize
     requires { to + 52 ≤ length output.old }
     ensures stored { Stored (ending_text ending) output.old to output.new result }
     ensures upper_bound { result ≤ to + 52 }
 {
-    if ending.kind == CALLED {
-        return write_line(b"A called", &[ending.length], output, to);
+    match ending {
+        Ending::Called(length) => write_line(b"A called", &[length], output, to),
+        Ending::Empty => write_line::<u64>(b"A empty", &[], output, to),
+        Ending::NoStrand => write_line::<u64>(b"A nostrand", &[], output, to),
+        Ending::Rejected(reason) => write_line(b"A rejected", &[u8::from(reason)], output, to),
+        Ending::Disagreeing(_) => {
+            let reason = RejectionReason::HighDuplexDisagreement;
+            write_line(b"A rejected", &[u8::from(reason)], output, to)
+        }
+        Ending::Refused(number, given) => {
+            write_line(b"A refused", &[u64::from(number), given as u64], output, to)
+        }
     }
-    if ending.kind == EMPTY {
-        return write_line(b"A empty", &[], output, to);
-    }
-    if ending.kind == NO_STRAND {
-        return write_line(b"A nostrand", &[], output, to);
-    }
-    let number = ending.number as u64;
-    if ending.kind == REJECTED {
-        return write_line(b"A rejected", &[number], output, to);
-    }
-    write_line(b"A refused", &[number, ending.with], output, to)
 }
 
 // 32 bits are at most ten digits, and 8 bits three.
@@ -54,9 +44,9 @@ fn write_listed(listed: u32, reason: u8, output: &mut [u8], to: usize) -> usize
     ensures stored { Stored (listed_text listed reason) output.old to output.new result }
     ensures upper_bound { result ≤ to + 15 }
 {
-    let at_colon = write_field(listed as u64, output, to);
+    let at_colon = write_field(u64::from(listed), output, to);
     let at_reason = write_words(b":", output, at_colon);
-    decimal::write_decimal(reason as u64, output, at_reason)
+    decimal::write_decimal(u64::from(reason), output, at_reason)
 }
 
 fn write_listings(n: usize, records: &[u32], reasons: &[u8], output: &mut [u8], to: usize) -> usize
@@ -65,10 +55,8 @@ fn write_listings(n: usize, records: &[u32], reasons: &[u8], output: &mut [u8], 
     ensures upper_bound { result ≤ to + 15 * n }
 {
     let mut end = to;
-    let mut i = 0;
-    while i < n {
+    for i in 0..n {
         end = write_listed(records[i], reasons[i], output, end);
-        i += 1;
     }
     end
 }
@@ -156,7 +144,7 @@ fn write_columns(
 
 // Writes the answer from place `to` on, and answers the place after it.
 pub fn write_family_answer(
-    answer: FamilyAnswer,
+    answer: Answer,
     listed: &[u32],
     reasons: &[u8],
     marks: &[u64],
@@ -187,22 +175,16 @@ pub fn write_family_answer(
     let ending = answer.ending;
     let ledger = answer.ledger;
     let after_ending = write_ending(ending, output, to);
-    if ending.kind == REFUSED {
+    if let Ending::Refused(_, _) = ending {
         return write_ledger(ledger, output, after_ending);
     }
-    let at_marks = write_list(
-        answer.listed as usize,
-        listed,
-        reasons,
-        output,
-        after_ending,
-    );
+    let at_marks = write_list(answer.listed, listed, reasons, output, after_ending);
     let after_marks = write_line(b"M", &marks[..8], output, at_marks);
-    if ending.kind != CALLED {
+    let Ending::Called(length) = ending else {
         return write_ledger(ledger, output, after_marks);
-    }
+    };
     let at_ledger = write_columns(
-        ending.length as usize,
+        length as usize,
         d_bases,
         d_quals,
         d_depths,

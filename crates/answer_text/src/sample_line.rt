@@ -28,7 +28,7 @@ pub fn write_sample(
         let first = 20 * sample as usize;
         let last = first + 20;
         let at_sample = write_words(b"TS", output, to);
-        let at_figures = write_field(sample as u64, output, at_sample);
+        let at_figures = write_field(u64::from(sample), output, at_sample);
         let end = write_fields(&all[first..last], output, at_figures);
         return end_line(output, end);
     }

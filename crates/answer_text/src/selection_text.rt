@@ -36,18 +36,16 @@ pub fn write_selection(selection: Selection, output: &mut [u8], to: usize) -> us
             r1_is_negative,
             r2_is_negative: _,
         } => {
-            let numbers = [start, end, length, r1_is_negative as u64];
+            let numbers = [start, end, length, u64::from(r1_is_negative)];
             let at_sides = write_line(b"S kept", &numbers, output, to);
             let r1 = selection.r1;
             let r2 = selection.r2;
             write_sides(&r1, &r2, output, at_sides)
         }
-        Decision::Empty => write_line(b"S empty", &[], output, to),
-        Decision::Rejected(reason) => {
-            write_line(b"S rejected", &[reason.number() as u64], output, to)
-        }
+        Decision::Empty => write_line::<u64>(b"S empty", &[], output, to),
+        Decision::Rejected(reason) => { write_line(b"S rejected", &[u8::from(reason)], output, to) }
         Decision::Refused(number, given) => {
-            write_line(b"S refused", &[number as u64, given as u64], output, to)
+            write_line(b"S refused", &[u64::from(number), given as u64], output, to)
         }
     }
 }

@@ -1,7 +1,6 @@
 -- Document 01, 'The answers': the ten reasons and their numbers.
-use Rattle.std.specs.Prelude.{◌≡◌, ℕ}
-use Rattle.caller.specs.declared.reason.Numbered.{Numbered}
-use Rattle.caller.specs.declared.reason.Numbered.TheVariants.{Reason, NoReason}
+use Rattle.std.specs.Prelude.{◌≡◌, ℕ, List, codes, Result, MatchResult}
+use Rattle.caller.specs.declared.reason.NoReason.{NoReason}
 use Rattle.caller.specs.declared.reason.RejectionReason.{RejectionReason}
 use Rattle.caller.specs.declared.reason.RejectionReason.TheVariants.{FragmentRead, NotPrimaryFrPair, InsufficientReads, MinorityAlignment, Downsampled, InsufficientOverlap, IndelErrorBetweenStrands, Dovetail, ClipOverlapFailed, HighDuplexDisagreement}
 
@@ -18,7 +17,19 @@ number_of Dovetail = 8
 number_of ClipOverlapFailed = 9
 number_of HighDuplexDisagreement = 10
 
+-- the name of a reason
+abbrev pub name_of : RejectionReason → List ℕ
+name_of FragmentRead = codes "FragmentRead"
+name_of NotPrimaryFrPair = codes "NotPrimaryFrPair"
+name_of InsufficientReads = codes "InsufficientReads"
+name_of MinorityAlignment = codes "MinorityAlignment"
+name_of Downsampled = codes "Downsampled"
+name_of InsufficientOverlap = codes "InsufficientOverlap"
+name_of IndelErrorBetweenStrands = codes "IndelErrorBetweenStrands"
+name_of Dovetail = codes "Dovetail"
+name_of ClipOverlapFailed = codes "ClipOverlapFailed"
+name_of HighDuplexDisagreement = codes "HighDuplexDisagreement"
+
 -- a number is read back as the reason that has it, or as none where no reason does
-abbrev pub ReadBack : ℕ → Numbered → Type 0
-ReadBack n (Reason reason) = number_of reason ≡ n
-ReadBack n NoReason = (reason : RejectionReason) → number_of reason ≡ n → ⊥
+abbrev pub ReadBack : ℕ → Result RejectionReason NoReason → Type 0
+ReadBack n r = MatchResult r (λ reason. number_of reason ≡ n) (λ _. (reason : RejectionReason) → number_of reason ≡ n → ⊥)

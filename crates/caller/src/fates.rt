@@ -26,13 +26,12 @@ pub fn first_fate(later: u8, fate: u8) -> u8
 pub fn is_rejection(fate: u8) -> bool
     ensures { result ≡ is_rejection fate }
 {
-    (1 <= fate) & (fate <= 10)
+    (1..=10).contains(&fate)
 }
 
 // Downsampled is a rejection that is counted and never marked.
 pub fn is_marked(fate: u8) -> bool
     ensures { result ≡ is_marked fate }
 {
-    let downsampled = RejectionReason::Downsampled.number();
-    is_rejection(fate) & (fate != downsampled)
+    is_rejection(fate) && fate != u8::from(RejectionReason::Downsampled)
 }

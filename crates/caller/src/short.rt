@@ -8,23 +8,12 @@ pub const FGBIO_SHORT_DEPTH_MAX: u16 = 32767;
 pub fn clamp_per_base_to_fgbio_short(depth: u16) -> u32
     ensures { result ≡ short_depth depth }
 {
-    if depth < FGBIO_SHORT_DEPTH_MAX {
-        depth as u32
-    } else {
-        FGBIO_SHORT_DEPTH_MAX as u32
-    }
+    u32::from(depth.min(FGBIO_SHORT_DEPTH_MAX))
 }
 
 // A combined error, which a difference can take below 0, limited to 0..32,767.
 pub fn clamp_combined_error_to_fgbio_short(error_sum: i64) -> u16
     ensures { result ≡ short_error error_sum }
 {
-    if error_sum < 0 {
-        return 0;
-    }
-    if error_sum < 32767 {
-        error_sum as u16
-    } else {
-        FGBIO_SHORT_DEPTH_MAX
-    }
+    error_sum.clamp(0, i64::from(FGBIO_SHORT_DEPTH_MAX)) as u16
 }

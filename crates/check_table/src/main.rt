@@ -2,7 +2,8 @@
 // writes the answer of the check. Of several pairs each answer stands behind its files' names.
 #![tactic(auto)]
 
-use partner_table::compare::{Answer, check_tables};
+use partner_table::compare::check_tables;
+use partner_table::fault::Fault;
 use std::io::Read;
 use std::rt::{Env, Files};
 use std::{env, fs, io};
@@ -12,49 +13,23 @@ use std::{env, fs, io};
 // too long to be well formed.
 const TABLE_BYTES: usize = 73753;
 
-fn write_number(rt: &impl Print, n: u64, after: &str) -> io::Result<()> {
-    print!(rt; "{n}{after}")
-}
-
-// Refusal 28 has no table.
-fn write_refusal(rt: &impl Print, number: u32, line: usize, table: u32) -> io::Result<()> {
-    rt.print("refused ")?;
-    write_number(rt, number as u64, " ")?;
-    if table == 0 {
-        write_number(rt, line as u64, "\n")
-    } else {
-        write_number(rt, line as u64, " ")?;
-        write_number(rt, table as u64, "\n")
-    }
-}
-
-fn write_answer(rt: &impl Print, answer: Answer) -> io::Result<()> {
+fn write_answer(rt: &impl Print, answer: Result<(), Fault>) -> io::Result<()> {
     match answer {
-        Answer::Accepted => rt.println("accepted"),
-        Answer::Wrong { line, field } => {
-            rt.print("wrong ")?;
-            write_number(rt, line as u64, " ")?;
-            write_number(rt, field as u64, "\n")
-        }
-        Answer::Refused {
-            number,
-            line,
-            table,
-        } => write_refusal(rt, number, line, table),
+        Ok(()) => rt.println("accepted"),
+        Err(fault) => println!(rt; "{fault}"),
     }
+}
+
+fn read_table<R: Alloc, F: Read + Drop>(rt: &R, file: F) -> io::Result<Vec<u8, R::A>> {
+    let mut table = Vec::new(rt.alloc());
+    file.take(TABLE_BYTES as u64).read_to_end(&mut table)?;
+    Ok(table)
 }
 
 fn answer_pair<R: Alloc + Print, F: Read + Drop>(rt: &R, ours: F, theirs: F) -> io::Result<()> {
-    let mut our_table = Vec::new(rt.alloc());
-    let our_size = ours.take(TABLE_BYTES as u64).read_to_end(&mut our_table)?;
-    let mut their_table = Vec::new(rt.alloc());
-    let their_size = theirs
-        .take(TABLE_BYTES as u64)
-        .read_to_end(&mut their_table)?;
-    write_answer(
-        rt,
-        check_tables(&our_table[..our_size], &their_table[..their_size]),
-    )
+    let our_table = read_table(rt, ours)?;
+    let their_table = read_table(rt, theirs)?;
+    write_answer(rt, check_tables(&our_table, &their_table))
 }
 
 // Of a file that cannot be opened, a line on standard error says why.

@@ -5,6 +5,7 @@ use crate::show::{put, put_answer};
 use crate::text::words_of;
 use std::io;
 use vanilla_caller::group::select_most_common_alignment_group;
+use vanilla_caller::side::Side;
 
 // The number of operations, the clipped length and the orientation of a record.
 #[derive(Drop)]
@@ -32,7 +33,14 @@ pub fn show_group(rt: &impl Print, cigars: &[u8], a: Read, b: Read, c: Read) -> 
     let clipped = [a.clipped, b.clipped, c.clipped];
     let reverse = [a.reverse, b.reverse, c.reverse];
     let mut stays = [false; 3];
-    select_most_common_alignment_group(&words, &clipped, &starts, &counts, &reverse, &mut stays);
+    let side = Side {
+        ops: &words,
+        clipped: &clipped,
+        starts: &starts,
+        counts: &counts,
+        reverse: &reverse,
+    };
+    select_most_common_alignment_group(&side, &mut stays);
     put(rt, b"group ")?;
     put(rt, cigars)?;
     put_stays(rt, &stays)

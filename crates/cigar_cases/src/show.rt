@@ -4,7 +4,7 @@ ghost use Rattle.std.specs.Prelude.{◌≤◌, length};
 use crate::text::{letter_of, words_of};
 use raw_bam::cigar::{read_length_from_cigar, reference_length_from_cigar};
 use raw_bam::prefix::{is_cigar_prefix, is_cigar_smaller};
-use raw_bam::read_pos::{ReadPos, read_pos_at_ref_pos_raw};
+use raw_bam::read_pos::read_pos_at_ref_pos_raw;
 use raw_bam::simplified::simplify_cigar_from_raw;
 use std::io;
 
@@ -25,11 +25,11 @@ pub fn put_answer(rt: &impl Print, what: &[u8], yes: bool) -> io::Result<()> {
     }
 }
 
-fn put_position(rt: &impl Print, position: ReadPos) -> io::Result<()> {
+fn put_position(rt: &impl Print, position: Option<u64>) -> io::Result<()> {
     put(rt, b" ")?;
     match position {
-        ReadPos::Base(p) => put_number(rt, p),
-        ReadPos::NoBase => put(rt, b"none"),
+        Some(p) => put_number(rt, p),
+        None => put(rt, b"none"),
     }
 }
 
@@ -44,10 +44,8 @@ fn put_entries(rt: &impl Print, entries: &[u64]) -> io::Result<()> {
     if entries.len() == 0 {
         put(rt, b"*")?;
     }
-    let mut i = 0;
-    while i < entries.len() {
-        put_entry(rt, entries[i])?;
-        i += 1;
+    for &entry in entries {
+        put_entry(rt, entry)?;
     }
     Ok(())
 }
@@ -148,12 +146,10 @@ pub fn show_positions(
     let mut words = [0u32; 64];
     let count = words_of(cigar, &mut words);
     let ops = &words[..count];
-    let mut position = first;
-    while position < end {
+    for position in first..end {
         put(rt, b"position ")?;
         put(rt, cigar)?;
         put_positions(rt, ops, start, position)?;
-        position += 1;
     }
     Ok(())
 }

@@ -9,8 +9,8 @@ use lib.Dec.{eqb, leb, ltb}
 use lib.ListN.{length, take}
 use mir.Val.{Val}
 use denote.Laws.{Is}
+use Rattle.std.proofs.lemmas.Bool.{and_parts, or_parts}
 use Rattle.lists.specs.Written.{written}
-use Rattle.lists.proofs.Cases.{and_both, or_neither}
 use Rattle.caller.specs.Refusals.{is_refusal, or_else, refused_if}
 use Rattle.caller.specs.declared.refusal.Refusal.{Refusal}
 use Rattle.caller.specs.declared.refusal.Refusal.TheVariants as refusals
@@ -63,10 +63,10 @@ selected_front o len n rs ops d own e s = rw e s
 columns_alike : (w : Widths) → bad_columns w ≡ false → (w.quals ≡ w.bases) × (w.depths ≡ w.bases) × (w.errors ≡ w.bases)
 unfolding bad_columns
 columns_alike w e =
-    let equal = not-false _ (or_neither (not (eqb w.bases w.quals && (eqb w.bases w.depths && (eqb w.bases w.errors && true)))) (ltb 1024 w.bases) e).0 in
-    let first = and_both (eqb w.bases w.quals) _ equal in
-    let second = and_both (eqb w.bases w.depths) _ first.1 in
-    let third = and_both (eqb w.bases w.errors) true second.1 in
+    let equal = not-false _ (or_parts (not (eqb w.bases w.quals && (eqb w.bases w.depths && (eqb w.bases w.errors && true)))) (ltb 1024 w.bases) e).0 in
+    let first = and_parts (eqb w.bases w.quals) _ equal in
+    let second = and_parts (eqb w.bases w.depths) _ first.1 in
+    let third = and_parts (eqb w.bases w.errors) true second.1 in
     (sym (eqb-true _ _ first.0), sym (eqb-true _ _ second.0), sym (eqb-true _ _ third.0))
 
 -- four columns of 2,048 places
@@ -78,10 +78,10 @@ pub record Wide (w : Widths) : Type 0 where
 
 wide_columns : (w : Widths) → is_wide w ≡ true → Wide w
 wide_columns w e =
-    let first = and_both (leb 2048 w.bases) _ e in
-    let second = and_both (leb 2048 w.quals) _ first.1 in
-    let third = and_both (leb 2048 w.depths) _ second.1 in
-    let fourth = and_both (leb 2048 w.errors) true third.1 in
+    let first = and_parts (leb 2048 w.bases) _ e in
+    let second = and_parts (leb 2048 w.quals) _ first.1 in
+    let third = and_parts (leb 2048 w.depths) _ second.1 in
+    let fourth = and_parts (leb 2048 w.errors) true third.1 in
     record { bases = leb-true _ _ first.0; quals = leb-true _ _ second.0; depths = leb-true _ _ third.0; errors = leb-true _ _ fourth.0 }
 
 -- what refusal 9 leaves of what is lent
@@ -96,12 +96,12 @@ pub record Lendable (room : Room) : Type 0 where
 lendable : (room : Room) → too_narrow room ≡ false → Lendable room
 unfolding too_narrow
 lendable room e =
-    let last = or_neither _ (ltb room.marks 8) e in
-    let reasons = or_neither _ (ltb room.listed_reasons 512) last.0 in
-    let records = or_neither (not (is_wide room.duplex && is_wide room.r1 && is_wide room.r2)) (ltb room.listed_records 512) reasons.0 in
+    let last = or_parts _ (ltb room.marks 8) e in
+    let reasons = or_parts _ (ltb room.listed_reasons 512) last.0 in
+    let records = or_parts (not (is_wide room.duplex && is_wide room.r1 && is_wide room.r2)) (ltb room.listed_records 512) reasons.0 in
     let wide = not-false _ records.0 in
-    let both = and_both (is_wide room.duplex && is_wide room.r1) (is_wide room.r2) wide in
-    let first = and_both (is_wide room.duplex) (is_wide room.r1) both.0 in
+    let both = and_parts (is_wide room.duplex && is_wide room.r1) (is_wide room.r2) wide in
+    let first = and_parts (is_wide room.duplex) (is_wide room.r1) both.0 in
     record {
       duplex = wide_columns room.duplex first.0;
       r1 = wide_columns room.r1 first.1;

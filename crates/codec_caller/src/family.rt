@@ -23,7 +23,7 @@ use codec_records::options::Options;
 use codec_records::room::room;
 use codec_rejects::fates::settle;
 use codec_rejects::rejects::{count_marks, write_list, write_marks};
-use codec_stats::ledger::{Ledger, add};
+use codec_stats::ledger::Ledger;
 
 // The length of the handover list, and what the call adds to the ledger.
 #[derive(Drop)]
@@ -194,6 +194,6 @@ pub fn consensus_reads_raw(
     FamilyAnswer {
         ending: report(ending),
         listed: settlement.listed,
-        ledger: add(ledger, added),
+        ledger: ledger + added,
     }
 }

@@ -6,7 +6,7 @@ use Prim.Native.Nat.{ℕ, ◌+◌, ◌≤◌}
 use native.Mathlib.Omega.{arith}
 use lib.ListN.{length}
 use Rattle.lists.specs.Count.{count_below}
-use Rattle.lists.specs.Those.{those}
+use Rattle.std.specs.List.{filter}
 use Rattle.lists.specs.Total.{total}
 use Rattle.codec_duplex.specs.Tally.{both_call, disagree}
 use Rattle.codec_stats.specs.Ledger.{fresh, figures, counter, filtered, plus}
@@ -26,7 +26,7 @@ use Rattle.codec_family.specs.declared.ending.Ending.TheVariants as endings
 use Rattle.codec_conservation.specs.History.{history_from, history}
 use Rattle.codec_family.proofs.Called.{called-tally}
 use Rattle.codec_family.proofs.Counting.{counted_ten, counted-all, counted_fate}
-use Rattle.lists.proofs.Total.{total-those, total_ones}
+use Rattle.lists.proofs.Total.{total-filter, total_ones}
 use Rattle.codec_conservation.proofs.Taking.{Taken, left_alone, added, taken, taken_fated, taken_marked}
 
 -- the ledger is the history's at every call
@@ -46,7 +46,7 @@ added_up l (m ∷ later) = added_up (plus l (counted m.call)) later
 
 -- the ledger after a chain is the one before and what each call not refused adds
 adds_up : (ledger : Ledger) (made : List Made) → ChainFrom ledger made → last_from ledger made ≡ added_up ledger (unrefused made)
-unfolding those added_up
+unfolding added_up
 adds_up ledger [] chain = refl
 adds_up ledger (m ∷ later) chain = adds_up m.answer.ledger later chain.1 ∙ go (says_refused m.answer.ending) refl
   where
@@ -60,7 +60,6 @@ each_taken P holds [] each = tt
 each_taken P holds (m ∷ later) each = (holds m each.0, each_taken P holds later each.1)
 
 all-taken : (ledger : Ledger) (made : List Made) → ChainFrom ledger made → Each Taken (unrefused made)
-unfolding those
 all-taken ledger [] chain = tt
 all-taken ledger (m ∷ later) chain = go (says_refused m.answer.ending) refl (all-taken m.answer.ledger later chain.1)
   where
@@ -128,9 +127,9 @@ module _ (taken : List Made) (each : Each Taken taken) where
   -- a figure to which each call adds where its answer meets a test
   figure_where : (figure : Ledger → ℕ) (test : FamilyEnding → Bool) (gain : Made → ℕ) → figure fresh ≡ 0
       → ((l : Ledger) (m : Made) → Ten l → Taken m → figure (plus l (counted m.call)) ≡ figure l + cond (test m.answer.ending) (gain m) 0)
-      → figure counts ≡ total gain (those (λ m. test m.answer.ending) taken)
+      → figure counts ≡ total gain (filter (λ m. test m.answer.ending) taken)
   figure_where figure test gain none adds =
-      figure_is figure (λ m. cond (test m.answer.ending) (gain m) 0) adds none taken each ∙ sym (total-those gain (λ (m : Made). test m.answer.ending) taken)
+      figure_is figure (λ m. cond (test m.answer.ending) (gain m) 0) adds none taken each ∙ sym (total-filter gain (λ (m : Made). test m.answer.ending) taken)
 
   families_are : counts.families ≡ length taken
   unfolding plus counted counted_by

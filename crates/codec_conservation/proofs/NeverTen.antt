@@ -7,18 +7,17 @@ use native.Mathlib.Omega.{arith}
 use borrow.Author.Tests.{eqb-false, le-leb, le-ltb}
 use lib.Dec.{leb, ltb}
 use lib.ListN.{length, get_or}
-use Rattle.lists.specs.Every.{every}
-use Rattle.lists.specs.Numbers.{numbers_from}
-use Rattle.lists.proofs.Cases.{cond_cases}
-use Rattle.lists.proofs.Every.{every_of, every_append}
+use Rattle.std.specs.Prelude.{Option, None, Some}
+use Rattle.std.specs.List.{list_all}
+use Rattle.std.proofs.lemmas.Bool.{cond_both}
+use Rattle.std.proofs.lemmas.List.Folds.{list_all-append}
+use Rattle.lists.proofs.Every.{list_all_of}
 use Rattle.lists.proofs.Places.{get_d_repeated}
 use Rattle.lists.proofs.Tabulate.{get_d_tabulate, length-tabulate}
 use Rattle.caller.specs.Refusals.{is_refusal, or_else, refused_if}
 use Rattle.caller.specs.declared.refusal.Refusal.{Refusal}
 use Rattle.caller.specs.declared.refusal.Refusal.TheVariants as refusals
-use Rattle.codec_pairing.specs.Refusals.{gives, lowest, refused_by, refusal_of_records, first_refusal, Reads, reads}
-use Rattle.codec_pairing.specs.declared.refusal.Cause.{Cause}
-use Rattle.codec_pairing.specs.declared.refusal.Cause.TheVariants as causes
+use Rattle.codec_pairing.specs.Refusals.{has_bad_part, has_bad_words, has_bad_bases, has_bad_place, lowest_bad, refused_at, refusal_of_records, first_refusal, Reads, reads}
 use Rattle.codec_select.specs.Alignments.{alignments_of}
 use Rattle.codec_records.specs.Records.{column}
 use Rattle.codec_select.specs.Steps.{fates_of}
@@ -112,9 +111,9 @@ bounded_small l b = rw (le-ltb 268435456 l.families b.families) (ap not others)
     reason_fits : (k : ℕ) → k < length l.reasons → test (get_or l.reasons k 0) ≡ true
     reason_fits k h = fits (get_or l.reasons k 0) (omega (arith, b.reasons k (rw b.ten at h)))
 
-    others : every test (other_counts l) ≡ true
+    others : list_all test (other_counts l) ≡ true
     others =
-        rw (fits l.records (omega (arith, b.records)), every_append test (record_counters l) rest, every_append test l.reasons three, every_of test l.reasons 0 reason_fits)
+        rw (fits l.records (omega (arith, b.records)), list_all-append test (record_counters l) rest, list_all-append test l.reasons three, list_all_of test l.reasons 0 reason_fits)
         (rw (fits l.passed_over (omega (arith, b.passed_over)), fits l.no_strand (omega (arith, b.no_strand)), fits l.used (omega (arith, b.used)))
         (rw (fits l.disagreement_rejected (omega (arith, b.rejected)), fits l.duplexes (omega (arith, b.duplexes)), fits l.bases b.bases, fits l.duplex_bases b.duplex_bases, fits l.disagreements b.disagreements)))
 
@@ -131,29 +130,26 @@ pub refused-if : (cause : Bool) (number given : ℕ) → (number ≡ 10 → ⊥)
 refused-if true number given p = p
 refused-if false number given p = tt
 
-lowest-not : (number : ℕ) (records : List ℕ) → (number ≡ 10 → ⊥) → NotTen (lowest number records)
-lowest-not number [] p = tt
-lowest-not number (i ∷ later) p = p
-
-by_cause : (cause : Cause) (f : Reads) → NotTen (refused_by cause f)
-unfolding refused_by
-by_cause causes.Part f = lowest-not 3 (numbers_from (gives causes.Part f) 0 (length f.clipped)) (λ e. omega arith)
-by_cause causes.Words f = lowest-not 4 (numbers_from (gives causes.Words f) 0 (length f.clipped)) (λ e. omega arith)
-by_cause causes.Bases f = lowest-not 5 (numbers_from (gives causes.Bases f) 0 (length f.clipped)) (λ e. omega arith)
-by_cause causes.Place f = lowest-not 6 (numbers_from (gives causes.Place f) 0 (length f.clipped)) (λ e. omega arith)
+refused-not : (number : ℕ) (found : Option ℕ) → (number ≡ 10 → ⊥) → NotTen (refused_at number found)
+refused-not number None p = tt
+refused-not number (Some i) p = p
 
 of_reads : (f : Reads) → NotTen (refusal_of_records f)
 unfolding refusal_of_records
 of_reads f =
-    or_else_lem (refused_by causes.Part f) (or_else (refused_by causes.Words f) (or_else (refused_by causes.Bases f) (refused_by causes.Place f))) (by_cause causes.Part f)
-    (or_else_lem (refused_by causes.Words f) (or_else (refused_by causes.Bases f) (refused_by causes.Place f)) (by_cause causes.Words f)
-    (or_else_lem (refused_by causes.Bases f) (refused_by causes.Place f) (by_cause causes.Bases f) (by_cause causes.Place f)))
+    let part = lowest_bad (has_bad_part f.ops) f in
+    let words = lowest_bad (has_bad_words f.ops) f in
+    let bases = lowest_bad (has_bad_bases f.ops) f in
+    let place = lowest_bad (has_bad_place f.ops) f in
+    or_else_lem (refused_at 3 part) (or_else (refused_at 4 words) (or_else (refused_at 5 bases) (refused_at 6 place))) (refused-not 3 part (λ e. omega arith))
+    (or_else_lem (refused_at 4 words) (or_else (refused_at 5 bases) (refused_at 6 place)) (refused-not 4 words (λ e. omega arith))
+    (or_else_lem (refused_at 5 bases) (refused_at 6 place) (refused-not 5 bases (λ e. omega arith)) (refused-not 6 place (λ e. omega arith))))
 
 of_first : (minimum records : ℕ) (f : Reads) → NotTen (first_refusal minimum records f)
 unfolding first_refusal
 of_first minimum records f =
-    cond_cases NotTen (ltb 2147483647 minimum) (λ _ e. omega arith)
-    (λ _. cond_cases NotTen (ltb 512 records || ltb 8192 (length f.ops)) (λ _ e. omega arith) (λ _. of_reads f))
+    cond_both (ltb 2147483647 minimum) _ _ NotTen (λ _ e. omega arith)
+    (λ _. cond_both (ltb 512 records || ltb 8192 (length f.ops)) _ _ NotTen (λ _ e. omega arith) (λ _. of_reads f))
 
 pub records_not : (c : Call) → NotTen (of_records c)
 unfolding of_records

@@ -1,7 +1,7 @@
 -- Document 01, 'Demand 3': 'any list of family calls, refused ones included, the first handed a fresh ledger and each later one the
 -- ledger that the one before returned or left'.
 use Rattle.std.specs.Prelude.{not, List, [], ◌∷◌, map, ◌≡◌}
-use Rattle.lists.specs.Those.{those}
+use Rattle.std.specs.List.{filter}
 use Rattle.codec_stats.specs.Ledger.{fresh}
 use Rattle.codec_stats.specs.declared.ledger.Ledger.{Ledger}
 use Rattle.codec_family.specs.Answer.{says_refused, says_called, says_disagreeing}
@@ -43,15 +43,15 @@ calls_of made = map Made.call made
 
 -- 'the calls not refused', as they were answered
 abbrev pub unrefused : List Made → List Made
-unrefused made = those (λ m. not (says_refused m.answer.ending)) made
+unrefused made = filter (λ m. not (says_refused m.answer.ending)) made
 
 -- 'those answered called'
 abbrev pub duplexes : List Made → List Made
-duplexes made = those (λ m. says_called m.answer.ending) made
+duplexes made = filter (λ m. says_called m.answer.ending) made
 
 -- 'the calls ended by HighDuplexDisagreement'
 abbrev pub disagreeing : List Made → List Made
-disagreeing made = those (λ m. says_disagreeing m.answer.ending) made
+disagreeing made = filter (λ m. says_disagreeing m.answer.ending) made
 
 -- of each element of a list
 abbrev pub Each : {A : Type 0} → (A → Type 0) → List A → Type 0

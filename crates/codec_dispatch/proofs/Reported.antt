@@ -1,16 +1,11 @@
 -- The same of what a host is told.
-use mathlib.Core.List.{List, ◌∷◌, map}
-use mathlib.Core.Path.{◌≡◌, refl, sym, ◌∙◌, ap, subst}
-use mathlib.Core.Bool.{true}
-use Prim.Native.Nat.{ℕ, ◌≤◌}
-use lib.ListN.{length, take}
-use Rattle.codec_dispatch.specs.declared.dispatch.Answer.{Answer}
-use Rattle.codec_dispatch.specs.declared.dispatch.Answer.TheVariants.{Added, Served, Idle, Refused}
+use Rattle.std.proofs.Common.{true, List, ◌∷◌, map, ◌≡◌, refl, sym, ◌∙◌, ap, subst, ℕ, ◌≤◌, length, take}
 use Rattle.codec_dispatch.specs.declared.dispatch.Dispatcher.{Dispatcher}
+use Rattle.codec_dispatch.specs.declared.dispatch.LaneRefusal.TheVariants.{NoSuchLane, LaneFull}
 use Rattle.codec_dispatch.specs.declared.report.DispatchAnswer.{DispatchAnswer}
 use Rattle.codec_dispatch.specs.Dispatch.{waits}
 use Rattle.codec_dispatch.specs.Turns as turns
-use Rattle.codec_dispatch.specs.Turns.{Call, outcome_of, Turns, turns_of, is_served}
+use Rattle.codec_dispatch.specs.Turns.{Answer, Added, Served, Idle, Refused, Call, outcome_of, Turns, turns_of, is_served}
 use Rattle.codec_dispatch.specs.Reported.{reported_as, answer_of, Told, none, then}
 use Rattle.codec_dispatch.proofs.Served.{served_within_eight}
 
@@ -19,13 +14,14 @@ unfolding answer_of
 answer_as Added left = refl
 answer_as (Served lane) left = refl
 answer_as Idle left = refl
-answer_as (Refused number) left = refl
+answer_as (Refused NoSuchLane) left = refl
+answer_as (Refused LaneFull) left = refl
 
 left_as : (answer : Answer) (left : Dispatcher) → (reported_as answer left).dispatcher ≡ left
 left_as Added left = refl
 left_as (Served lane) left = refl
 left_as Idle left = refl
-left_as (Refused number) left = refl
+left_as (Refused why) left = refl
 
 -- the numbers lose nothing: what a host is told stands for a chain of answers
 pub chain_told : {d : Dispatcher} {calls : List Call} {told : List DispatchAnswer} → Told d calls told → Turns d calls (map answer_of told)

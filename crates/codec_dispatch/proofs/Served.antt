@@ -1,28 +1,21 @@
 -- A lane that waits is served in time, however many families are added.
-use mathlib.Core.Bool.{Bool, true, false, cond, ◌||◌, false≢true}
-use mathlib.Core.List.{List, [], ◌∷◌}
-use mathlib.Core.Logic.{◌⊎◌, inl, inr, ⊎_elim}
-use mathlib.Core.Path.{◌≡◌, refl, sym, ◌∙◌, ap, subst}
-use Prim.Native.Nat.{ℕ, zero, suc, ◌+◌, ◌-◌, ◌%◌, ◌≤◌, ◌<◌}
+use Rattle.std.proofs.Common.{Bool, true, false, ◌||◌, ◌==◌, cond, List, [], ◌∷◌, Option, Some, None, ◌≡◌, refl, sym, ap, subst, ◌⊎◌, inl, inr, ℕ, zero, suc, ◌+◌, ◌-◌, ◌%◌, ◌≤◌, ◌<◌, nat_lt, nat_eq, length, slice_index, slice_set, take, arith, add-one}
+use mathlib.Core.Bool.{false≢true}
+use mathlib.Core.Logic.{⊎_elim}
 use native.Mathlib.Decide.{ℕ_discrete}
 use native.Mathlib.Nat.{eq-zero-or-pos}
-use native.Mathlib.Numerals.{add-one}
-use native.Mathlib.Omega.{arith}
 use borrow.Author.Tests.{eqb-false, ltb-true, ltb-false, lt-ltb, le-ltb}
-use lib.Dec.{eqb, ltb}
-use lib.ListN.{length, get_or, set, take, get_or-eq_default}
-use lib.Seq.{get_or-set_same, get_or-set_other}
-use Rattle.codec_dispatch.specs.declared.dispatch.Answer.{Answer}
-use Rattle.codec_dispatch.specs.declared.dispatch.Answer.TheVariants.{Served, Refused}
+use lib.ListN.{get_or-eq_default}
+use Rattle.std.proofs.Math.Seq.{get_or-set_same, get_or-set_other}
+use Rattle.std.proofs.lemmas.List.Sums.{sum_by-cons}
 use Rattle.codec_dispatch.specs.declared.dispatch.Dispatcher.{Dispatcher}
-use Rattle.codec_dispatch.specs.declared.dispatch.Outcome.{Outcome}
-use Rattle.codec_dispatch.specs.Dispatch.{count_of, waits, raised, add, circle, first_of, next, lowered, after_turn, turn}
-use Rattle.codec_dispatch.specs.Turns.{Call, Add, Turn, outcome_of, Turns, none, then, answers_of, turns_of, turns_in, serves_lane, is_served, distance}
+use Rattle.codec_dispatch.specs.declared.dispatch.LaneRefusal.TheVariants.{NoSuchLane}
+use Rattle.codec_dispatch.specs.Dispatch.{count_of, waits, raised, next, lowered, after_turn}
+use Rattle.codec_dispatch.specs.Turns.{Answer, Served, Refused, answer_of_turn, Call, Add, Turn, Outcome, outcome_of, Turns, none, then, answers_of, turns_of, asks_turn, turns_in, serves_lane, is_served, distance}
 use Rattle.codec_dispatch.proofs.Lanes.{next_of, turn_as, add_as, add_keeps, turn_keeps, add_above, turn_above}
 
 -- more answers serve no fewer lanes
 served_more : (lane : ℕ) (xs : List Answer) (m n : ℕ) → m ≤ n → is_served lane (take m xs) ≡ true → is_served lane (take n xs) ≡ true
-unfolding is_served
 served_more lane xs zero n h s = absurd (false≢true s)
 served_more lane xs (suc m) zero h s = absurd (omega arith)
 served_more lane [] (suc m) (suc n) h s = s
@@ -36,7 +29,7 @@ served_more lane (x ∷ xs) (suc m) (suc n) h s = by_first (serves_lane lane x) 
 waits-within : (d : Dispatcher) (lane : ℕ) → waits d lane ≡ true → lane < length d.waiting
 waits-within d lane w =
     ⊎_elim
-    (λ beyond. absurd (omega (arith, ltb-true 0 (get_or d.waiting lane 0) w, get_or-eq_default d.waiting 0 {n = lane} (omega arith))))
+    (λ beyond. absurd (omega (arith, ltb-true 0 (slice_index d.waiting lane) w, get_or-eq_default d.waiting 0 {n = lane} (omega arith))))
     (λ within. omega arith)
     (eq-zero-or-pos (length d.waiting - lane))
 
@@ -44,9 +37,9 @@ waits-within d lane w =
 raised-waits : (d : Dispatcher) (other lane : ℕ) → waits d lane ≡ true → waits (raised d other) lane ≡ true
 raised-waits d other lane w = by_lane (ℕ_discrete lane other)
   where
-    by_lane : Dec (lane ≡ other) → ltb 0 (get_or (set d.waiting other (count_of d other + 1)) lane 0) ≡ true
+    by_lane : Dec (lane ≡ other) → nat_lt 0 (slice_index (slice_set d.waiting other (count_of d other + 1)) lane) ≡ true
     by_lane (yes e) =
-        rw (e) (lt-ltb 0 (get_or (set d.waiting other (count_of d other + 1)) other 0)
+        rw (e) (lt-ltb 0 (slice_index (slice_set d.waiting other (count_of d other + 1)) other)
         (omega (arith, get_or-set_same d.waiting other (count_of d other + 1) 0 (omega (arith, waits-within d lane w)))))
     by_lane (no differ) = rw (get_or-set_other d.waiting other lane (count_of d other + 1) 0 differ) w
 
@@ -60,9 +53,8 @@ record AfterAdd (d : Dispatcher) (lane : ℕ) (o : Outcome) : Type 0 where
   pub still : waits o.left lane ≡ true
   pub no_turn : (answers : List Answer) → turns_of (o.answer ∷ answers) ≡ turns_of answers
 
-after-add : (d : Dispatcher) (other lane : ℕ) → waits d lane ≡ true → AfterAdd d lane (add d other)
-unfolding add turns_of
-after-add d other lane w = by_tests (ltb 7 other || ltb 7 d.last) (eqb (count_of d other) 65535)
+after-add : (d : Dispatcher) (other lane : ℕ) → waits d lane ≡ true → AfterAdd d lane (outcome_of d (Add other))
+after-add d other lane w = by_tests (nat_lt 7 other || nat_lt 7 d.last) (count_of d other == 65535)
   where
     by_tests : (far full : Bool)
         → AfterAdd d lane (add_as far full d other)
@@ -105,10 +97,9 @@ step_served : (d : Dispatcher) (lane served : ℕ) (answers : List Answer) → w
     → ((lane ≡ served → ⊥) → (lane + 7 - served) % 8 + 1 ≤ distance d lane)
     → (waits (lowered d served) lane ≡ true → InTime lane ((lane + 7 - served) % 8) (turns_of answers))
     → InTime lane (distance d lane) (Served served ∷ turns_of answers)
-unfolding is_served
-step_served d lane served answers w less later h = rw (add-one) (by_lane (eqb served lane) refl)
+step_served d lane served answers w less later h = rw (add-one) (by_lane (nat_eq served lane) refl)
   where
-    by_lane : (same : Bool) → eqb served lane ≡ same → same || is_served lane (take (distance d lane) (turns_of answers)) ≡ true
+    by_lane : (same : Bool) → nat_eq served lane ≡ same → same || is_served lane (take (distance d lane) (turns_of answers)) ≡ true
     by_lane true p = refl
     by_lane false p =
         let differ : lane ≡ served → ⊥ = λ e. eqb-false served lane p (sym e) in
@@ -117,12 +108,11 @@ step_served d lane served answers w less later h = rw (add-one) (by_lane (eqb se
         (later (lowered-waits d served lane differ w) (omega arith))
 
 step-turn : (d : Dispatcher) (lane : ℕ) (answers : List Answer) → lane ≤ 7 → waits d lane ≡ true
-    → (waits (turn d).left lane ≡ true → InTime lane (distance (turn d).left lane) (turns_of answers))
-    → InTime lane (distance d lane) (turns_of ((turn d).answer ∷ answers))
-unfolding turn turns_of
-step-turn d lane answers l w = by_last (ltb 7 d.last) refl
+    → (waits (outcome_of d Turn).left lane ≡ true → InTime lane (distance (outcome_of d Turn).left lane) (turns_of answers))
+    → InTime lane (distance d lane) (turns_of ((outcome_of d Turn).answer ∷ answers))
+step-turn d lane answers l w = by_last (nat_lt 7 d.last) refl
   where
-    by_last : (above : Bool) → ltb 7 d.last ≡ above
+    by_last : (above : Bool) → nat_lt 7 d.last ≡ above
         → (waits (turn_as above d).left lane ≡ true → InTime lane (distance (turn_as above d).left lane) (turns_of answers))
         → InTime lane (distance d lane) (turns_of ((turn_as above d).answer ∷ answers))
     by_last true p = λ later. later w
@@ -130,13 +120,14 @@ step-turn d lane answers l w = by_last (ltb 7 d.last) refl
         let low : d.last ≤ 7 = ltb-false 7 d.last p in
         let n = next_of d lane low l w in
         subst
-        (λ (a : Answer). (waits (after_turn d a) lane ≡ true → InTime lane (distance (after_turn d a) lane) (turns_of answers)) → InTime lane (distance d lane) (turns_of (a ∷ answers)))
+        (λ (o : Option ℕ). (waits (after_turn d o) lane ≡ true → InTime lane (distance (after_turn d o) lane) (turns_of answers))
+        → InTime lane (distance d lane) (turns_of (answer_of_turn o ∷ answers)))
         (sym n.found)
         (step_served d lane n.served answers w (falls d.last lane n.place n.served low l n.before n.there))
 
 step-add : (d : Dispatcher) (other lane : ℕ) (answers : List Answer) → waits d lane ≡ true
-    → (waits (add d other).left lane ≡ true → InTime lane (distance (add d other).left lane) (turns_of answers))
-    → InTime lane (distance d lane) (turns_of ((add d other).answer ∷ answers))
+    → (waits (outcome_of d (Add other)).left lane ≡ true → InTime lane (distance (outcome_of d (Add other)).left lane) (turns_of answers))
+    → InTime lane (distance d lane) (turns_of ((outcome_of d (Add other)).answer ∷ answers))
 step-add d other lane answers w later =
     let a = after-add d other lane w in
     subst (λ (turns : List Answer). InTime lane (distance d lane) turns) (sym (a.no_turn answers))
@@ -145,7 +136,6 @@ step-add d other lane answers w later =
 step : (d : Dispatcher) (call : Call) (lane : ℕ) (answers : List Answer) → lane ≤ 7 → waits d lane ≡ true
     → (waits (outcome_of d call).left lane ≡ true → InTime lane (distance (outcome_of d call).left lane) (turns_of answers))
     → InTime lane (distance d lane) (turns_of ((outcome_of d call).answer ∷ answers))
-unfolding outcome_of
 step d (Add other) lane answers l w later = step-add d other lane answers w later
 step d Turn lane answers l w later = step-turn d lane answers l w later
 
@@ -153,7 +143,6 @@ step d Turn lane answers l w later = step-turn d lane answers l w later
 pub served_in_time : {d : Dispatcher} {calls : List Call} {answers : List Answer} (lane : ℕ) → Turns d calls answers → lane ≤ 7 → waits d lane ≡ true
     → distance d lane < length (turns_of answers)
     → is_served lane (take (distance d lane + 1) (turns_of answers)) ≡ true
-unfolding turns_of
 served_in_time lane none l w h = absurd (omega arith)
 served_in_time lane (then {d} {call} {calls} {answers} rest) l w h = step d call lane answers l w (λ still enough. served_in_time lane rest l still enough) h
 
@@ -177,38 +166,28 @@ one_chain (then {d} {call} rest) = ap {B = List Answer} (λ more. (outcome_of d 
 
 -- a lane served last of 0 to 7 is kept so by every call
 pub last_kept : (d : Dispatcher) (call : Call) → d.last ≤ 7 → (outcome_of d call).left.last ≤ 7
-unfolding outcome_of
 last_kept d (Add lane) h = omega (arith, add_keeps d lane)
 last_kept d Turn h = turn_keeps d h
 
 -- with one above 7 every call is refused, and leaves the dispatcher
-pub above_refused : (d : Dispatcher) (call : Call) → 7 < d.last → outcome_of d call ≡ record { answer = Refused 22; left = d }
-unfolding outcome_of
+pub above_refused : (d : Dispatcher) (call : Call) → 7 < d.last → outcome_of d call ≡ record { answer = Refused NoSuchLane; left = d }
 above_refused d (Add lane) h = add_above d lane h
 above_refused d Turn h = turn_above d h
 
 -- a lane or idle counts as a turn
-first_counts : (test : ℕ → Bool) (lanes : List ℕ) (answers : List Answer) → turns_of (first_of test lanes ∷ answers) ≡ first_of test lanes ∷ turns_of answers
-unfolding first_of turns_of
-first_counts test [] answers = refl
-first_counts test (lane ∷ lanes) answers = by_first (test lane) (first_counts test lanes answers)
-  where
-    by_first : (t : Bool) → turns_of (first_of test lanes ∷ answers) ≡ first_of test lanes ∷ turns_of answers
-        → turns_of (cond t (Served lane) (first_of test lanes) ∷ answers) ≡ cond t (Served lane) (first_of test lanes) ∷ turns_of answers
-    by_first true rest = refl
-    by_first false rest = rest
+found_counts : (found : Option ℕ) (answers : List Answer) → length (turns_of (answer_of_turn found ∷ answers)) ≡ suc (length (turns_of answers))
+found_counts (Some lane) answers = refl
+found_counts None answers = refl
 
-turn_counts : (d : Dispatcher) (answers : List Answer) → d.last ≤ 7 → length (turns_of ((turn d).answer ∷ answers)) ≡ suc (length (turns_of answers))
-unfolding turn next
-turn_counts d answers h = by_last (ltb 7 d.last) (le-ltb 7 d.last h)
+turn_counts : (d : Dispatcher) (answers : List Answer) → d.last ≤ 7 → length (turns_of ((outcome_of d Turn).answer ∷ answers)) ≡ suc (length (turns_of answers))
+turn_counts d answers h = by_last (nat_lt 7 d.last) (le-ltb 7 d.last h)
   where
     by_last : (above : Bool) → above ≡ false → length (turns_of ((turn_as above d).answer ∷ answers)) ≡ suc (length (turns_of answers))
     by_last true e = absurd (false≢true (sym e))
-    by_last false e = ap length (first_counts (waits d) (circle d.last) answers)
+    by_last false e = found_counts (next d) answers
 
-add_counts : (d : Dispatcher) (lane : ℕ) (answers : List Answer) → length (turns_of ((add d lane).answer ∷ answers)) ≡ length (turns_of answers)
-unfolding add turns_of
-add_counts d lane answers = by_tests (ltb 7 lane || ltb 7 d.last) (eqb (count_of d lane) 65535)
+add_counts : (d : Dispatcher) (lane : ℕ) (answers : List Answer) → length (turns_of ((outcome_of d (Add lane)).answer ∷ answers)) ≡ length (turns_of answers)
+add_counts d lane answers = by_tests (nat_lt 7 lane || nat_lt 7 d.last) (count_of d lane == 65535)
   where
     by_tests : (far full : Bool)
         → length (turns_of ((add_as far full d lane).answer ∷ answers))
@@ -217,15 +196,17 @@ add_counts d lane answers = by_tests (ltb 7 lane || ltb 7 d.last) (eqb (count_of
     by_tests false true = refl
     by_tests false false = refl
 
+-- what one call adds to the number of turns
+abbrev turn_of : Call → ℕ
+turn_of call = cond (asks_turn call) 1 0
+
 call_counts : (d : Dispatcher) (call : Call) (calls : List Call) (answers : List Answer) → d.last ≤ 7 → length (turns_of answers) ≡ turns_in calls
     → length (turns_of ((outcome_of d call).answer ∷ answers)) ≡ turns_in (call ∷ calls)
-unfolding outcome_of turns_in
-call_counts d (Add lane) calls answers h e = add_counts d lane answers ∙ e
-call_counts d Turn calls answers h e = turn_counts d answers h ∙ ap suc e
+call_counts d (Add lane) calls answers h e = omega (arith, add_counts d lane answers, sum_by-cons turn_of (Add lane) calls)
+call_counts d Turn calls answers h e = omega (arith, turn_counts d answers h, sum_by-cons turn_of Turn calls)
 
 -- with a lane served last of 0 to 7 no turn is refused: each counts
 pub turns_count : {d : Dispatcher} {calls : List Call} {answers : List Answer} → Turns d calls answers → d.last ≤ 7 → length (turns_of answers) ≡ turns_in calls
-unfolding turns_of turns_in
 turns_count none h = refl
 turns_count (then {d} {call} {calls} {answers} rest) h = call_counts d call calls answers h (turns_count rest (last_kept d call h))
 

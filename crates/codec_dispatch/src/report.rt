@@ -1,12 +1,13 @@
 // What a host is told.
-ghost use Rattle.std.specs.Prelude.{◌≡◌};
-ghost use Rattle.codec_dispatch.specs.Reported.{reported, reported_as};
+ghost use Rattle.std.specs.Prelude.{◌≡◌, OnOk, IfOk, IfErr};
+ghost use Rattle.codec_dispatch.specs.Reported.{reported_as};
+ghost use Rattle.codec_dispatch.specs.Turns.{Added, Refused, answer_of_turn};
 
-use crate::dispatch::{Answer, Dispatcher, Outcome};
+use crate::dispatch::{Dispatcher, LaneRefusal};
 
 // Kind 0 is an added family, 1 has the lane served, 2 is idle, 3 a refusal's number and what goes with it; the dispatcher is for the next call.
 #[repr(C)]
-#[derive(Drop)]
+#[derive(Clone, Copy)]
 pub struct DispatchAnswer {
     pub kind: u32,
     pub lane: u32,
@@ -15,45 +16,57 @@ pub struct DispatchAnswer {
     pub dispatcher: Dispatcher,
 }
 
-fn report_as(answer: Answer, left: Dispatcher) -> DispatchAnswer
-    ensures { result ≡ reported_as answer left }
-{
-    match answer {
-        Answer::Added => DispatchAnswer {
-            kind: 0,
-            lane: 0,
-            number: 0,
-            with: 0,
-            dispatcher: left,
-        },
-        Answer::Served(lane) => DispatchAnswer {
-            kind: 1,
-            lane,
-            number: 0,
-            with: 0,
-            dispatcher: left,
-        },
-        Answer::Idle => DispatchAnswer {
-            kind: 2,
-            lane: 0,
-            number: 0,
-            with: 0,
-            dispatcher: left,
-        },
-        Answer::Refused(number) => DispatchAnswer {
+impl DispatchAnswer {
+    // What an add answers, and the dispatcher that it leaves.
+    pub fn of_add(added: Result<(), LaneRefusal>, dispatcher: Dispatcher) -> Self
+        ensures ok { OnOk added (result ≡ reported_as Added dispatcher) }
+        ensures err { IfErr added (λ why. result ≡ reported_as (Refused why) dispatcher) }
+    {
+        match added {
+            Ok(()) => DispatchAnswer {
+                kind: 0,
+                lane: 0,
+                number: 0,
+                with: 0,
+                dispatcher,
+            },
+            Err(why) => DispatchAnswer::of_refusal(why, dispatcher),
+        }
+    }
+
+    // What a turn answers, and the dispatcher that it leaves.
+    pub fn of_turn(turn: Result<Option<u32>, LaneRefusal>, dispatcher: Dispatcher) -> Self
+        ensures ok { IfOk turn (λ lane. result ≡ reported_as (answer_of_turn lane) dispatcher) }
+        ensures err { IfErr turn (λ why. result ≡ reported_as (Refused why) dispatcher) }
+    {
+        match turn {
+            Ok(Some(lane)) => DispatchAnswer {
+                kind: 1,
+                lane,
+                number: 0,
+                with: 0,
+                dispatcher,
+            },
+            Ok(None) => DispatchAnswer {
+                kind: 2,
+                lane: 0,
+                number: 0,
+                with: 0,
+                dispatcher,
+            },
+            Err(why) => DispatchAnswer::of_refusal(why, dispatcher),
+        }
+    }
+
+    fn of_refusal(why: LaneRefusal, dispatcher: Dispatcher) -> Self
+        ensures { result ≡ reported_as (Refused why) dispatcher }
+    {
+        DispatchAnswer {
             kind: 3,
             lane: 0,
-            number,
+            number: why.number(),
             with: 0,
-            dispatcher: left,
-        },
+            dispatcher,
+        }
     }
-}
-
-pub fn report(outcome: Outcome) -> DispatchAnswer
-    ensures { result ≡ reported outcome }
-{
-    let answer = outcome.answer;
-    let left = outcome.left;
-    report_as(answer, left)
 }

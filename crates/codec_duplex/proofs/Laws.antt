@@ -6,8 +6,8 @@ use Prim.Native.Nat.{ℕ, ◌≤◌, ◌<◌}
 use borrow.Author.Tests.{eqb-true, leb-true}
 use lib.Dec.{eqb, leb, lit<}
 use lib.ListN.{length, get_or}
-use Rattle.lists.specs.Every.{every}
-use Rattle.lists.proofs.Every.{every_at}
+use Rattle.std.specs.List.{list_all}
+use Rattle.lists.proofs.Every.{list_all_at}
 use Rattle.codec_duplex.specs.Columns.{Strand, lengths, columns_fit, Fitting}
 use Rattle.codec_duplex.specs.Duplex.{Duplex, duplex_lengths}
 
@@ -16,17 +16,17 @@ abbrev others : Strand → Strand → List ℕ
 others a b = length a.quals ∷ length a.depths ∷ length a.errors ∷ lengths b
 
 module _ (a b : Strand) (result : Duplex) (fit : columns_fit (lengths a ++ lengths b) (duplex_lengths result) ≡ true) where
-  bounds : (leb (length a.bases) 2048 ≡ true) × (every (leb (length a.bases)) (duplex_lengths result) ≡ true)
-  bounds = (and-eq-true_iff _ _).0 ((and-eq-true_iff (every (eqb (length a.bases)) (others a b)) _).0 fit).1
+  bounds : (leb (length a.bases) 2048 ≡ true) × (list_all (leb (length a.bases)) (duplex_lengths result) ≡ true)
+  bounds = (and-eq-true_iff _ _).0 ((and-eq-true_iff (list_all (eqb (length a.bases)) (others a b)) _).0 fit).1
 
   pub at_most_2048 : length a.bases ≤ 2048
   at_most_2048 = leb-true _ _ bounds.0
 
   equal : (k : ℕ) → k < 7 → get_or (others a b) k 0 ≡ length a.bases
-  equal k h = sym (eqb-true _ _ (every_at (eqb (length a.bases)) (others a b) 0 ((and-eq-true_iff _ _).0 fit).0 k h))
+  equal k h = sym (eqb-true _ _ (list_all_at (eqb (length a.bases)) (others a b) 0 ((and-eq-true_iff _ _).0 fit).0 k h))
 
   room : (k : ℕ) → k < 4 → length a.bases ≤ get_or (duplex_lengths result) k 0
-  room k h = leb-true _ _ (every_at (leb (length a.bases)) (duplex_lengths result) 0 bounds.1 k h)
+  room k h = leb-true _ _ (list_all_at (leb (length a.bases)) (duplex_lengths result) 0 bounds.1 k h)
 
   pub fitting : Fitting a b result
   fitting =

@@ -1,6 +1,6 @@
 -- Strands as four columns, and the columns of their duplex.
 use Rattle.std.specs.Prelude.{Bool, true, ◌&&◌, List, [], ◌∷◌, ◌≡◌, ℕ, ◌≤◌, eqb, leb, length, get_or}
-use Rattle.lists.specs.Every.{every}
+use Rattle.std.specs.List.{list_all}
 use Rattle.lists.specs.Tabulate.{tabulate}
 use Rattle.lists.specs.Written.{written}
 use Rattle.codec_duplex.specs.Duplex.{Duplex}
@@ -35,7 +35,7 @@ combined_column field a b = tabulate (field_at field a b) (length a.bases)
 -- the columns are equally long, not above 2,048, and no result is shorter
 abbrev pub columns_fit : (columns results : List ℕ) → Bool
 columns_fit [] results = true
-columns_fit (n ∷ columns) results = every (eqb n) columns && (leb n 2048 && every (leb n) results)
+columns_fit (n ∷ columns) results = list_all (eqb n) columns && (leb n 2048 && list_all (leb n) results)
 
 -- the same of two strands and a result, without the limit of 2,048
 pub record Fitting (a b : Strand) (result : Duplex) : Type 0 where

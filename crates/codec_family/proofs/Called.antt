@@ -7,8 +7,8 @@ use native.Mathlib.Omega.{arith}
 use borrow.Author.Tests.{ltb-false}
 use lib.Dec.{ltb}
 use lib.ListN.{length}
+use Rattle.std.proofs.lemmas.Bool.{or_parts}
 use Rattle.lists.specs.Count.{count_below}
-use Rattle.lists.proofs.Cases.{or_neither}
 use Rattle.caller.specs.Refusals.{is_refusal}
 use Rattle.caller.specs.declared.reason.RejectionReason.TheVariants.{ClipOverlapFailed}
 use Rattle.codec_duplex.specs.Columns.{Strand}
@@ -51,7 +51,7 @@ strands_fit o f true r1 true r2 e = go (too_short f r1 r2) refl e
         → Fits f true r1 true r2 (cond short (endings.Rejected ClipOverlapFailed) (by_limits (judgement o f r1 r2) f.length))
     go true s e = absurd (false≢true e)
     go false s e =
-        let both = or_neither (ltb f.length (length r1)) (ltb f.length (length r2)) s in
+        let both = or_parts (ltb f.length (length r1)) (ltb f.length (length r2)) s in
         record {
           has_r1_lem = refl;
           has_r2_lem = refl;

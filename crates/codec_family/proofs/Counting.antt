@@ -8,10 +8,10 @@ use borrow.Author.Tests.{eqb-true, eqb-false, leb-true, leb-false}
 use lib.Count.{ones}
 use lib.Dec.{eqb, leb}
 use lib.ListN.{length, get_or, take}
+use Rattle.std.proofs.lemmas.Bool.{cond_both}
 use Rattle.lists.specs.Tabulate.{tabulate}
 use Rattle.lists.specs.Total.{total}
 use Rattle.lists.specs.Written.{written}
-use Rattle.lists.proofs.Cases.{cond_cases}
 use Rattle.lists.proofs.Tabulate.{length-tabulate, get_d_tabulate}
 use Rattle.caller.specs.Reasons.{number_of}
 use Rattle.caller.specs.Refusals.{is_refusal}
@@ -96,7 +96,7 @@ module _ (c : Call) (none : is_refusal (of_records c) ≡ false) (fated : Fated 
 
   few_called : (tally : ℕ) → (is_called (ending c) ≡ true → tally ≤ (frame c).length) → cond (is_called (ending c)) tally 0 ≤ 2047
   few_called tally within =
-      cond_cases (λ (n : ℕ). n ≤ 2047) (is_called (ending c)) (λ e. omega (arith, within e, (called_fits c e).long, called_short c none)) (λ _. omega arith)
+      cond_both (is_called (ending c)) _ _ (λ (n : ℕ). n ≤ 2047) (λ e. omega (arith, within e, (called_fits c e).long, called_short c none)) (λ _. omega arith)
 
   pub counted_few : Few (counted c)
   unfolding counted counted_by

@@ -8,8 +8,8 @@ use borrow.Author.Tests.{ne_eqb}
 use lib.Dec.{eqb, ltb}
 use lib.Ieee.{lt}
 use lib.ListN.{length, get_or, length-map}
-use Rattle.lists.proofs.Cases.{cond_cases}
-use Rattle.lists.proofs.Map.{get_d-map-within}
+use Rattle.std.proofs.lemmas.Bool.{cond_both}
+use Rattle.std.proofs.lemmas.List.{get_or-map}
 use Rattle.caller.specs.Fates.{first_fate}
 use Rattle.caller.specs.Reasons.{number_of}
 use Rattle.caller.specs.Refusals.{is_refusal}
@@ -74,8 +74,8 @@ limits_fate tally o n = go (eqb tally.bases 0) (ltb o.max_duplex_disagreements t
 strands_fate : (o : Options) (f : Frame) (has_r1 : Bool) (r1 : List ℕ) (has_r2 : Bool) (r2 : List ℕ) → Gives (from_strands o f has_r1 r1 has_r2 r2)
 unfolding from_strands judgement
 strands_fate o f has_r1 r1 has_r2 r2 =
-    cond_cases Gives (not (has_r1 && has_r2)) (λ _. (omega arith, tt))
-    (λ _. cond_cases Gives (too_short f r1 r2) (λ _. (omega arith, tt)) (λ _. limits_fate (tally_of f r1 r2) o f.length))
+    cond_both (not (has_r1 && has_r2)) _ _ Gives (λ _. (omega arith, tt))
+    (λ _. cond_both (too_short f r1 r2) _ _ Gives (λ _. (omega arith, tt)) (λ _. limits_fate (tally_of f r1 r2) o f.length))
 
 first_fate_lem : (later fate : ℕ) → IsFate later → fate ≤ 11 → IsFate (first_fate later fate)
 first_fate_lem later zero h below = h
@@ -114,6 +114,6 @@ module _ (c : Call) (none : is_refusal (of_records c) ≡ false) where
       record {
         one_each = length-map own _ ∙ left.so_far.0;
         decided = λ i below.
-            rw (get_d-map-within (first_fate (fate_by (ending_from (selection c).decision c.options c.has_r1 c.r1.bases c.has_r2 c.r2.bases))) own i 0 0 (rw left.so_far.0 below))
+            rw (get_or-map (first_fate (fate_by (ending_from (selection c).decision c.options c.has_r1 c.r1.bases c.has_r2 c.r2.bases))) own i 0 0 (rw left.so_far.0 below))
             (by_ending c.options c.has_r1 c.r1.bases c.has_r2 c.r2.bases (length c.records) own (selection c).decision left.so_far left.ends i below);
       }

@@ -1,7 +1,9 @@
 -- The paper's cases of a family's ending as numbers.
-use Rattle.std.specs.Prelude.{Bool, ◌&&◌, ℕ, eqb}
+use Rattle.std.specs.Prelude.{Bool, ◌&&◌, ◌≡◌, ℕ, eqb}
 use Rattle.caller.specs.Reasons.{number_of}
 use Rattle.caller.specs.declared.reason.RejectionReason.TheVariants.{HighDuplexDisagreement}
+use Rattle.codec_family.specs.declared.answer.Answer.{Answer}
+use Rattle.codec_family.specs.declared.answer.FamilyAnswer.{FamilyAnswer}
 use Rattle.codec_family.specs.declared.answer.FamilyEnding.{FamilyEnding}
 use Rattle.codec_family.specs.declared.ending.Ending.{Ending}
 use Rattle.codec_family.specs.declared.ending.Ending.TheVariants.{Called, Empty, NoStrand, Rejected, Disagreeing, Refused}
@@ -29,6 +31,13 @@ reported NoStrand = record { kind = no_strand_number; number = 0; with = 0; leng
 reported (Rejected reason) = record { kind = rejected_number; number = number_of reason; with = 0; length = 0 }
 reported (Disagreeing limit) = record { kind = rejected_number; number = number_of HighDuplexDisagreement; with = 0; length = 0 }
 reported (Refused number given) = record { kind = refused_number; number = number; with = given; length = 0 }
+
+abbrev pub reported_answer : Answer → FamilyAnswer
+reported_answer a = record { ending = reported a.ending; listed = a.listed; ledger = a.ledger }
+
+-- an ending is told, in the numbers that stand for it
+abbrev pub TellsEnding : FamilyEnding → Type 0
+TellsEnding told = (ending : Ending) × (reported ending ≡ told)
 
 -- what an answer says
 abbrev pub says_refused : FamilyEnding → Bool

@@ -27,6 +27,10 @@ is_called (Rejected reason) = false
 is_called (Disagreeing limit) = false
 is_called (Refused number given) = false
 
+abbrev pub is_refused : Ending → Bool
+is_refused (Refused number given) = true
+is_refused _ = false
+
 -- the length of a duplex that is called
 abbrev pub called_length : Ending → ℕ
 called_length (Called length) = length

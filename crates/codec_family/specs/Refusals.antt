@@ -1,6 +1,6 @@
 -- Document 01, the table of refusals: 1 to 11 of a family call. 'Lowest number first, then lowest record or strand'.
 use Rattle.std.specs.Prelude.{Bool, not, ◌&&◌, ◌||◌, List, [], ◌∷◌, ℕ, eqb, leb, ltb, length}
-use Rattle.lists.specs.Every.{every}
+use Rattle.std.specs.List.{list_all}
 use Rattle.caller.specs.Refusals.{or_else, refused_if}
 use Rattle.caller.specs.declared.refusal.Refusal.{Refusal}
 use Rattle.caller.specs.declared.refusal.Refusal.TheVariants as refusals
@@ -31,7 +31,7 @@ refusal_in (decisions.Refused number given) = refusals.Refused number given
 
 -- 7: 'strand columns of unequal length or above 1,024'
 unfoldable pub bad_columns : Widths → Bool
-bad_columns w = not (every (eqb w.bases) (w.quals ∷ w.depths ∷ w.errors ∷ [])) || ltb 1024 w.bases
+bad_columns w = not (list_all (eqb w.bases) (w.quals ∷ w.depths ∷ w.errors ∷ [])) || ltb 1024 w.bases
 
 -- A C G T N n
 abbrev pub is_base : ℕ → Bool
@@ -39,7 +39,7 @@ is_base base = eqb base 65 || eqb base 67 || eqb base 71 || eqb base 84 || eqb b
 
 -- 8: 'strand base not A C G T N n'
 unfoldable pub bad_bases : List ℕ → Bool
-bad_bases bases = not (every is_base bases)
+bad_bases bases = not (list_all is_base bases)
 
 -- 7, then 8: 'with it 0 (R1) or 1'; the columns of an absent strand are 'unread'
 unfoldable pub of_strands : (has_r1 : Bool) → Widths → List ℕ → (has_r2 : Bool) → Widths → List ℕ → Refusal
@@ -51,7 +51,7 @@ of_strands has_r1 r1 r1_bases has_r2 r2 r2_bases =
 
 -- four columns of at least 2,048 places
 abbrev pub is_wide : Widths → Bool
-is_wide w = every (leb 2048) (w.bases ∷ w.quals ∷ w.depths ∷ w.errors ∷ [])
+is_wide w = list_all (leb 2048) (w.bases ∷ w.quals ∷ w.depths ∷ w.errors ∷ [])
 
 -- 9: 'a result column under 2,048, a list column under 512, marks under 8'
 unfoldable pub too_narrow : Room → Bool

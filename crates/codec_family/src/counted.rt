@@ -32,7 +32,7 @@ fn called_length(ending: Ending) -> u64
 fn is_disagreeing(ending: Ending) -> bool
     ensures { result ≡ ended_by_disagreement ending }
 {
-    fate_by(ending) == RejectionReason::HighDuplexDisagreement.number()
+    fate_by(ending) == u8::from(RejectionReason::HighDuplexDisagreement)
 }
 
 // The counts of the fates 1 to 10.

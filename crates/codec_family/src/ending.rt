@@ -60,8 +60,8 @@ pub fn fate_by(ending: Ending) -> u8
         Ending::Called(_) => USED,
         Ending::Empty => UNDECIDED,
         Ending::NoStrand => NO_STRAND,
-        Ending::Rejected(reason) => reason.number(),
-        Ending::Disagreeing(_) => RejectionReason::HighDuplexDisagreement.number(),
+        Ending::Rejected(reason) => u8::from(reason),
+        Ending::Disagreeing(_) => u8::from(RejectionReason::HighDuplexDisagreement),
         Ending::Refused(_, _) => UNDECIDED,
     }
 }

@@ -3,15 +3,13 @@ ghost use Rattle.std.specs.Prelude.{cond, ltb, length, take};
 ghost use Rattle.codec_caller.specs.Settling.{Selected};
 
 use codec_caller::choosing::{Chosen, select_fates};
+use codec_records::columns::gather;
 use codec_records::options::Options;
-use codec_records::records::{Record, gather};
-use codec_records::room::room;
+use codec_records::records::Record;
 
 pub(crate) fn choose(records: &[Record], ops: &[u32], options: Options) -> Chosen
     ensures { Selected options (length records.now) records.now ops.now result.decision (take (cond (ltb 512 (length records.now)) 0 (length records.now)) result.fates) }
 {
-    let len = records.len();
-    let n = room(len);
-    let columns = gather(records, n);
-    select_fates(columns, len, ops, options)
+    let columns = gather(records, records.len());
+    select_fates(&columns, ops, options)
 }

@@ -5,12 +5,12 @@ ghost use Rattle.codec_stats.specs.Reported.{reported_rates};
 
 use codec_stats::ledger::Ledger;
 use codec_stats::rates::rates;
-use codec_stats::report::{RatesAnswer, report_rates};
+use codec_stats::report::RatesAnswer;
 
 // The filtered records and both rates of a ledger.
 #[unsafe(no_mangle)]
 pub extern "C" fn codec_ffi_rates(ledger: Ledger) -> RatesAnswer
     ensures { result ≡ reported_rates (rates_of ledger) }
 {
-    report_rates(rates(ledger))
+    RatesAnswer::from(rates(ledger))
 }

@@ -2,9 +2,9 @@
 ghost use Rattle.std.specs.Prelude.{length};
 ghost use Rattle.record_selection.specs.Reported.{SelectingRecords};
 
+use codec_records::columns::gather;
 use codec_records::options::Options;
-use codec_records::records::{Record, gather};
-use codec_records::room::room;
+use codec_records::records::Record;
 use record_selection::report::{SelectAnswer, report_columns};
 
 // Steps 1 to 7 of a family, without a ledger.
@@ -16,8 +16,6 @@ pub extern "C" fn codec_ffi_select(
 ) -> SelectAnswer
     ensures { SelectingRecords options (length records.now) records.now ops.now result }
 {
-    let len = records.len();
-    let n = room(len);
-    let columns = gather(records, n);
-    report_columns(columns, len, ops, options)
+    let columns = gather(records, records.len());
+    report_columns(&columns, ops, options)
 }

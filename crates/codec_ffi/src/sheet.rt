@@ -3,7 +3,7 @@ ghost use Rattle.std.specs.Prelude.{◌≡◌};
 ghost use Rattle.sheet_text.specs.Reported.{reported_sheet};
 ghost use Rattle.sheet_text.specs.Sheet.{sheet_answer, sheet_buffer};
 
-use sheet_text::report::{SheetAnswer, report_sheet};
+use sheet_text::report::SheetAnswer;
 use sheet_text::sheet::write_sheet;
 
 // The samples' ledgers as text at the front of a lent buffer.
@@ -12,5 +12,5 @@ pub extern "C" fn codec_ffi_sheet(samples: &[u64; 1920], out: &mut [u8]) -> Shee
     ensures value { result ≡ reported_sheet (sheet_answer samples.now out.old) }
     ensures out_after { out.new ≡ sheet_buffer samples.now out.old }
 {
-    report_sheet(write_sheet(samples, out))
+    SheetAnswer::from(write_sheet(samples, out))
 }

@@ -4,8 +4,8 @@ use mathlib.Core.List.{List}
 use Prim.Native.Nat.{ℕ, ◌≤◌}
 use native.Mathlib.Omega.{arith}
 use lib.ListN.{length}
+use Rattle.std.proofs.lemmas.Bool.{and_parts}
 use Rattle.lists.specs.Count.{count_below}
-use Rattle.lists.proofs.Cases.{and_both}
 use Rattle.lists.proofs.Count.{count-le, count_into}
 use Rattle.codec_duplex.specs.Columns.{Strand}
 use Rattle.codec_duplex.specs.Tally.{both_call, disagree, tallied}
@@ -51,5 +51,5 @@ module _ (f : Frame) (r1 r2 : List ℕ) where
       let a = padded_bases_r1 f r1 in
       let b = padded_bases_r2 f r2 in
       count_into (disagree a b) (both_call a b) (λ i. i) (length a) (length a)
-      (λ i h both. (h, (and_both (both_call a b i) _ both).0))
+      (λ i h both. (h, (and_parts (both_call a b i) _ both).0))
       (λ i j h k p q e. e)

@@ -7,8 +7,8 @@ use Prim.Native.Nat.{ℕ, zero-le, ◌-◌, ◌*◌, ◌≤◌, ◌<◌}
 use native.Mathlib.Omega.{arith}
 use borrow.Author.Tests.{eq-eqb}
 use lib.ListN.{length, get_or, length-map}
-use Rattle.lists.proofs.Cases.{cond_cases, and_both}
-use Rattle.lists.proofs.Map.{get_d-map-within}
+use Rattle.std.proofs.lemmas.Bool.{cond_both, and_parts}
+use Rattle.std.proofs.lemmas.List.{get_or-map}
 use Rattle.lists.proofs.Numbers.{numbers_at, numbers_has}
 use Rattle.raw_bam.specs.Flags.{first_segment_flag, has_flag}
 use Rattle.codec_pairing.specs.Pairing.{remains, is_namesake, namesakes_from, namesakes, is_pair, is_first, is_entered, opens_pair, earlier_records, later_of, r1_of, r2_of, side_r1, side_r2}
@@ -41,7 +41,7 @@ module _ (flags names : List ℕ) (verdicts : List Bool) where
   unfolding is_entered
   later_entered i opens =
       let later = later_namesake flags names verdicts i opens in
-      let pair = (and_both (remains (get_or flags i 0)) _ (opens_entered flags names verdicts i opens)).1 in
+      let pair = (and_parts (remains (get_or flags i 0)) _ (opens_entered flags names verdicts i opens)).1 in
       (later.0, rw (later.2, later.1) pair)
 
   -- at each place of a side that picks one of each pair's two records
@@ -50,16 +50,16 @@ module _ (flags names : List ℕ) (verdicts : List Bool) where
   entered_at pick either k h =
       let within : k < length (earlier_records flags names verdicts) = rw (← length-side_r1) h in
       let t = numbers_at (opens_pair flags names verdicts) 0 (length flags) k within in
-      rw (get_d-map-within pick (earlier_records flags names verdicts) k 0 0 within)
+      rw (get_or-map pick (earlier_records flags names verdicts) k 0 0 within)
       (either _ (omega arith, opens_entered flags names verdicts _ t.2) (later_entered _ t.2))
 
   pub side_r1_entered : (k : ℕ) → k < length (side_r1 flags names verdicts) → Entered (get_or (side_r1 flags names verdicts) k 0)
   unfolding side_r1 r1_of
-  side_r1_entered = entered_at (r1_of flags names) (λ i earlier later. cond_cases Entered (has_flag (get_or flags i 0) first_segment_flag) (λ _. earlier) (λ _. later))
+  side_r1_entered = entered_at (r1_of flags names) (λ i earlier later. cond_both (has_flag (get_or flags i 0) first_segment_flag) _ _ Entered (λ _. earlier) (λ _. later))
 
   pub side_r2_entered : (k : ℕ) → k < length (side_r1 flags names verdicts) → Entered (get_or (side_r2 flags names verdicts) k 0)
   unfolding side_r2 r2_of
-  side_r2_entered = entered_at (r2_of flags names) (λ i earlier later. cond_cases Entered (has_flag (get_or flags i 0) first_segment_flag) (λ _. later) (λ _. earlier))
+  side_r2_entered = entered_at (r2_of flags names) (λ i earlier later. cond_both (has_flag (get_or flags i 0) first_segment_flag) _ _ Entered (λ _. later) (λ _. earlier))
 
   -- the first of a pair opens it
   opens_first : (x a b : ℕ) → namesakes flags names x ≡ a ∷ b ∷ [] → is_pair verdicts (namesakes flags names x) ≡ true → (a < length flags) × (opens_pair flags names verdicts a ≡ true) × (later_of flags names a ≡ b)
@@ -73,15 +73,15 @@ module _ (flags names : List ℕ) (verdicts : List Bool) where
   pair_at : (k a x : ℕ) → k < length (earlier_records flags names verdicts) → get_or (earlier_records flags names verdicts) k 0 ≡ a → (a ≡ x) ⊎ (later_of flags names a ≡ x) → (get_or (side_r1 flags names verdicts) k 0 ≡ x) ⊎ (get_or (side_r2 flags names verdicts) k 0 ≡ x)
   unfolding side_r1 side_r2 r1_of r2_of
   pair_at k a x h here one =
-      ⊎_elim (λ e. inl (get_d-map-within (r1_of flags names) (earlier_records flags names verdicts) k 0 0 h ∙ ap (r1_of flags names) here ∙ e))
-      (λ e. inr (get_d-map-within (r2_of flags names) (earlier_records flags names verdicts) k 0 0 h ∙ ap (r2_of flags names) here ∙ e))
+      ⊎_elim (λ e. inl (get_or-map (r1_of flags names) (earlier_records flags names verdicts) k 0 0 h ∙ ap (r1_of flags names) here ∙ e))
+      (λ e. inr (get_or-map (r2_of flags names) (earlier_records flags names verdicts) k 0 0 h ∙ ap (r2_of flags names) here ∙ e))
       (one_of_sides (has_flag (get_or flags a 0) first_segment_flag) one)
 
   -- each entered record stands in a side
   pub entered_in : (x : ℕ) → Entered x → (k : ℕ) × (k < length (side_r1 flags names verdicts)) × ((get_or (side_r1 flags names verdicts) k 0 ≡ x) ⊎ (get_or (side_r2 flags names verdicts) k 0 ≡ x))
   unfolding earlier_records is_entered namesakes_from is_namesake
   entered_in x entered =
-      let parts = and_both (remains (get_or flags x 0)) _ entered.1 in
+      let parts = and_parts (remains (get_or flags x 0)) _ entered.1 in
       let records = namesakes flags names x in
       let two = pair_two verdicts records parts.1 in
       let first = opens_first x (get_or records 0 0) (get_or records 1 0) two parts.1 in

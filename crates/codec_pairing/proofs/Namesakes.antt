@@ -9,32 +9,36 @@ use native.Mathlib.Omega.{arith}
 use borrow.Author.Tests.{eq-eqb, eqb-true, not-true}
 use lib.Dec.{eqb}
 use lib.ListN.{length, get_or}
+use Rattle.std.proofs.lemmas.Bool.{and_parts, false_from_ne_true}
 use Rattle.lists.specs.Numbers.{numbers_from}
-use Rattle.lists.proofs.Cases.{and_both, fails_of_never}
-use Rattle.lists.proofs.Numbers.{numbers_yes, numbers_no, numbers_end, numbers_has}
+use Rattle.lists.proofs.Numbers.{numbers_first, numbers_yes, numbers_no, numbers_end, numbers_has}
 use Rattle.raw_bam.specs.Flags.{paired_flag, has_flag}
 use Rattle.codec_pairing.specs.Pairing.{not_primary, remains, is_namesake, namesakes_from, namesakes, is_pair, is_first, is_entered, fate_of, opens_pair, later_of}
-use Rattle.codec_pairing.specs.Search.{Reached, Preceded, is_some, has_namesake}
+use Rattle.codec_pairing.specs.Search.{is_some, has_namesake}
 use Rattle.codec_pairing.proofs.Sides.{one_of_two, opens_namesakes, later-after}
 
-module _ {flags names : List ℕ} {name from r : ℕ} (reached : Reached flags names name from r) where
-  -- the search has found the next one
-  pub next_found : r < length flags → namesakes_from flags names name from ≡ r ∷ namesakes_from flags names name (r + 1)
+module _ (flags names : List ℕ) (name i : ℕ) where
+  -- a record of the name that remains comes before those after it
+  pub found_here : i < length flags → is_namesake flags names name i ≡ true → namesakes_from flags names name i ≡ i ∷ namesakes_from flags names name (i + 1)
   unfolding namesakes_from
-  next_found h = reached.none_between ∙ numbers_yes (is_namesake flags names name) (length flags) r h (reached.found h)
+  found_here h found = numbers_yes (is_namesake flags names name) (length flags) i h found
 
-  -- or has come to the end
-  pub none_found : length flags ≤ r → namesakes_from flags names name from ≡ []
+  -- another is passed over
+  pub passed_here : i < length flags → is_namesake flags names name i ≡ false → namesakes_from flags names name i ≡ namesakes_from flags names name (i + 1)
   unfolding namesakes_from
-  none_found h = reached.none_between ∙ numbers_end (is_namesake flags names name) (length flags) r h
+  passed_here h fails = numbers_no (is_namesake flags names name) (length flags) i h fails
+
+  pub none_behind : length flags ≤ i → namesakes_from flags names name i ≡ []
+  unfolding namesakes_from
+  none_behind h = numbers_end (is_namesake flags names name) (length flags) i h
 
 -- numbers of which none meets a test are passed over
 none_of : (test : ℕ → Bool) (count from more : ℕ) → is_some (numbers_from test from count) ≡ false → numbers_from test from (count + more) ≡ numbers_from test (from + count) more
-unfolding is_some numbers_from
+unfolding is_some
 none_of test zero from more none = rw (zero-add, add-zero)
 none_of test (suc count) from more none =
     let place : suc from + count ≡ from + suc count = omega arith in
-    rw (suc-add, ← place) (by_test (test from) none (none_of test count (suc from) more))
+    rw (suc-add, ← place, numbers_first) (by_test (test from) (rw numbers_first at none) (none_of test count (suc from) more))
   where
     by_test : (b : Bool) → is_some (cond b (from ∷ numbers_from test (suc from) count) (numbers_from test (suc from) count)) ≡ false
         → (is_some (numbers_from test (suc from) count) ≡ false → numbers_from test (suc from) (count + more) ≡ numbers_from test (suc from + count) more)
@@ -64,24 +68,30 @@ module _ (flags names : List ℕ) (name from to : ℕ) where
   unfolding has_namesake is_some
   asked-all k h = rw (numbers_end (is_namesake flags names name) to k h)
 
--- a third record of the name
-pub third_found : (verdicts : List Bool) (one two : ℕ) (more : List ℕ) → is_some more ≡ true → is_pair verdicts (one ∷ two ∷ more) ≡ false
-unfolding is_some is_pair
-third_found verdicts one two [] some = absurd (false≢true some)
-third_found verdicts one two (three ∷ more) some = refl
+-- the one record of a name is no pair
+pub alone : (verdicts : List Bool) (one : ℕ) → is_pair verdicts (one ∷ []) ≡ false
+unfolding is_pair
+alone verdicts one = refl
 
-pub none_more : (more : List ℕ) → is_some more ≡ false → more ≡ []
-unfolding is_some
-none_more [] none = refl
-none_more (three ∷ more) none = absurd (false≢true (sym none))
+-- two are, where there is no third
+module _ (flags names : List ℕ) (verdicts : List Bool) (name one two : ℕ) where
+  third : (more : List ℕ) → is_some more ≡ true → is_pair verdicts (one ∷ two ∷ more) ≡ false
+  unfolding is_some is_pair
+  third [] some = absurd (false≢true some)
+  third (three ∷ more) some = refl
 
--- the record before record k is not of the name
-pub none_passed : (flags names : List ℕ) (name k : ℕ) → 0 < k → k ≤ length flags → is_namesake flags names name (k - 1) ≡ false
-    → namesakes_from flags names name (k - 1) ≡ namesakes_from flags names name k
-unfolding namesakes_from
-none_passed flags names name k some h fails =
-    let next : k - 1 + 1 ≡ k = omega arith in
-    rw next at (numbers_no (is_namesake flags names name) (length flags) (k - 1) (omega arith) fails)
+  no_third : (more : List ℕ) → is_some more ≡ false → is_pair verdicts (one ∷ two ∷ more) ≡ get_or verdicts one false
+  unfolding is_some is_pair
+  no_third [] none = refl
+  no_third (three ∷ more) none = absurd (false≢true (sym none))
+
+  pub third_found : has_namesake flags names name (two + 1) (length flags) ≡ true → is_pair verdicts (one ∷ two ∷ namesakes_from flags names name (two + 1)) ≡ false
+  unfolding has_namesake namesakes_from
+  third_found some = third _ some
+
+  pub none_found : has_namesake flags names name (two + 1) (length flags) ≡ false → is_pair verdicts (one ∷ two ∷ namesakes_from flags names name (two + 1)) ≡ get_or verdicts one false
+  unfolding has_namesake namesakes_from
+  none_found none = no_third _ none
 
 module _ (flags names : List ℕ) (verdicts : List Bool) (i : ℕ) where
   -- a record that does not remain opens nothing
@@ -90,45 +100,33 @@ module _ (flags names : List ℕ) (verdicts : List Bool) (i : ℕ) where
   opens_not_aside aside = rw aside
 
   -- nor does one that has a namesake before it
-  pub opens_not : {r : ℕ} → Preceded flags names i r → (r ≡ i → ⊥) → i < length flags → opens_pair flags names verdicts i ≡ false
+  pub opens_not : (r : ℕ) → r < i → is_namesake flags names (get_or names i 0) r ≡ true → i < length flags → opens_pair flags names verdicts i ≡ false
   unfolding namesakes_from
-  opens_not {r} preceded differ h =
-      fails_of_never _ (λ opens.
+  opens_not r before found h =
+      false_from_ne_true _ (λ opens.
       let two = opens_namesakes flags names verdicts i opens in
-      let bound = preceded.within in
-      let before : r < i = omega arith in
-      let has = numbers_has (is_namesake flags names (get_or names i 0)) 0 (length flags - 0) r zero-le (omega arith) (preceded.found before) in
+      let has = numbers_has (is_namesake flags names (get_or names i 0)) 0 (length flags - 0) r zero-le (omega arith) found in
       let at : get_or (i ∷ later_of flags names i ∷ []) has.0 0 ≡ r = rw two at has.2 in
       let within : has.0 < 2 = rw two at has.1 in
       let after = later-after flags names verdicts i opens in
-      ⊎_elim (λ e. differ (sym e)) (λ e. omega arith) (one_of_two i (later_of flags names i) has.0 r within at))
+      ⊎_elim (λ e. omega arith) (λ e. omega arith) (one_of_two i (later_of flags names i) has.0 r within at))
 
   -- one that remains and has none before it is the first of its name
-  pub first_of : {r : ℕ} → Preceded flags names i r → r ≡ i → i < length flags → remains (get_or flags i 0) ≡ true → Reached flags names (get_or names i 0) 0 i
+  pub first_of : i < length flags → remains (get_or flags i 0) ≡ true → namesakes flags names i ≡ namesakes_from flags names (get_or names i 0) i → namesakes flags names i ≡ i ∷ namesakes_from flags names (get_or names i 0) (i + 1)
   unfolding is_namesake
-  first_of preceded is h stays = record { within = omega arith; none_between = preceded.none_before is; found = λ _. rw (eq-eqb (get_or names i 0) (get_or names i 0) refl) stays }
+  first_of h stays none = none ∙ found_here flags names (get_or names i 0) i h (rw (eq-eqb (get_or names i 0) (get_or names i 0) refl) stays)
 
   -- the records of a name that remain have one fate
   pub same_fate : (k : ℕ) → is_namesake flags names (get_or names i 0) k ≡ true → remains (get_or flags i 0) ≡ true → fate_of flags names verdicts k ≡ fate_of flags names verdicts i
   unfolding is_namesake fate_of is_entered
   same_fate k namesake stays =
-      let both = and_both (eqb (get_or names k 0) (get_or names i 0)) (remains (get_or flags k 0)) namesake in
+      let both = and_parts (eqb (get_or names k 0) (get_or names i 0)) (remains (get_or flags k 0)) namesake in
       let name = eqb-true (get_or names k 0) (get_or names i 0) both.0 in
-      let own = and_both (has_flag (get_or flags i 0) paired_flag) (not (not_primary (get_or flags i 0))) stays in
-      let other = and_both (has_flag (get_or flags k 0) paired_flag) (not (not_primary (get_or flags k 0))) both.1 in
+      let own = and_parts (has_flag (get_or flags i 0) paired_flag) (not (not_primary (get_or flags i 0))) stays in
+      let other = and_parts (has_flag (get_or flags k 0) paired_flag) (not (not_primary (get_or flags k 0))) both.1 in
       rw (name, own.0, other.0, not-true (not_primary (get_or flags i 0)) own.1, not-true (not_primary (get_or flags k 0)) other.1)
 
-  -- record i stands first
-  pub opens_where_pair : Reached flags names (get_or names i 0) 0 i → i < length flags → opens_pair flags names verdicts i ≡ is_pair verdicts (namesakes flags names i)
-  unfolding opens_pair is_entered is_first is_namesake
-  opens_where_pair reached h =
-      let stays = rw (eq-eqb (get_or names i 0) (get_or names i 0) refl) at (reached.found h) in
-      simp (stays, next_found reached h, eq-eqb i i refl, and-true)
-
-  -- the next one after it is the later of the two
-  pub later-next : {r : ℕ} → Reached flags names (get_or names i 0) 0 i → i < length flags → Reached flags names (get_or names i 0) (i + 1) r → is_pair verdicts (namesakes flags names i) ≡ true → r ≡ later_of flags names i
-  unfolding later_of is_pair
-  later-next {r} reached h next pair =
-      ⊎_elim (λ none. absurd (false≢true (rw (next_found reached h, none_found next (omega arith)) at pair)))
-      (λ more. rw (next_found reached h, next_found next (omega arith)))
-      (eq-zero-or-pos (length flags - r))
+  -- the first of its name opens what pair there is
+  pub opens_where_pair : remains (get_or flags i 0) ≡ true → namesakes flags names i ≡ i ∷ namesakes_from flags names (get_or names i 0) (i + 1) → opens_pair flags names verdicts i ≡ is_pair verdicts (namesakes flags names i)
+  unfolding opens_pair is_entered is_first
+  opens_where_pair stays first = simp (stays, first, eq-eqb i i refl, and-true)

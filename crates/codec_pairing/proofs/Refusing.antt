@@ -1,47 +1,44 @@
 -- Which record gives a refusal.
-use mathlib.Core.Bool.{true, false}
-use mathlib.Core.List.{List, map}
-use mathlib.Core.Path.{◌≡◌}
-use Prim.Native.Nat.{ℕ, ◌+◌, ◌-◌, ◌≤◌, ◌<◌}
-use native.Mathlib.Omega.{arith}
-use borrow.Author.Tests.{eq-eqb, ne_eqb}
-use lib.ListN.{length, get_or}
+use Rattle.std.proofs.Common.{◌≡◌, ◌∙◌, ◌<◌, ◌≤◌, ◌+◌, ◌-◌, ℕ, Bool, true, false, List, length, get_or, map, Option, Some, None, arith, eq-eqb, ne_eqb}
+use Rattle.std.specs.Prelude.{slice_get}
 use Rattle.lists.specs.Numbers.{numbers_from}
-use Rattle.lists.proofs.Map.{get_d-map-within}
+use Rattle.std.proofs.lemmas.List.{get_or-map}
 use Rattle.lists.proofs.Numbers.{numbers_yes, numbers_no, numbers_end}
-use Rattle.codec_pairing.specs.declared.refusal.Cause.{Cause}
-use Rattle.caller.specs.declared.refusal.Refusal.{Refusal}
-use Rattle.caller.specs.declared.refusal.Refusal.TheVariants.{NoRefusal, Refused}
 use Rattle.caller.specs.Fates.{undecided_number}
-use Rattle.codec_pairing.specs.Refusals.{Reads, refusal_number, has_cause, read_of, gives, lowest, refused_by, is_undecided}
+use Rattle.codec_pairing.specs.declared.refusal.Read.{Read}
+use Rattle.codec_pairing.specs.Refusals.{Reads, read_of, gives, lowest_bad, is_undecided}
 
-module _ (cause : Cause) (f : Reads) where
-  -- the refusal that the records from record i on give
-  abbrev pub from_on : ℕ → Refusal
-  from_on i = lowest (refusal_number cause) (numbers_from (gives cause f) i (length f.clipped - i))
+module _ (bad : Read → Bool) (f : Reads) where
+  -- the lowest from record i on
+  abbrev pub lowest_from : ℕ → Option ℕ
+  lowest_from i = slice_get (numbers_from (gives bad f) i (length f.clipped - i)) 0
 
-  pub from_first : refused_by cause f ≡ from_on 0
-  unfolding refused_by
-  from_first =
+  pub lowest_from-0 : lowest_bad bad f ≡ lowest_from 0
+  unfolding lowest_bad
+  lowest_from-0 =
       let all : length f.clipped - 0 ≡ length f.clipped = omega arith in
       rw all
 
-  pub from_given : (i : ℕ) → i < length f.clipped → gives cause f i ≡ true → from_on i ≡ Refused (refusal_number cause) i
-  from_given i h given = rw (numbers_yes (gives cause f) (length f.clipped) i h given)
+  module _ (i : ℕ) (so_far : lowest_bad bad f ≡ lowest_from i) where
+    pub none-left : length f.clipped ≤ i → lowest_bad bad f ≡ None
+    none-left h = so_far ∙ rw (numbers_end (gives bad f) (length f.clipped) i h)
 
-  pub from_passed : (i : ℕ) → i < length f.clipped → gives cause f i ≡ false → from_on i ≡ from_on (i + 1)
-  from_passed i h passed = rw (numbers_no (gives cause f) (length f.clipped) i h passed)
+    module _ (fates : List ℕ) (e : f.entered ≡ map is_undecided fates) (h : i < length fates) (g : i < length f.clipped) where
+      passed : gives bad f i ≡ false → lowest_bad bad f ≡ lowest_from (i + 1)
+      passed fails = so_far ∙ rw (numbers_no (gives bad f) (length f.clipped) i g fails)
 
-  pub from_end : (i : ℕ) → length f.clipped ≤ i → from_on i ≡ NoRefusal
-  from_end i h = rw (numbers_end (gives cause f) (length f.clipped) i h)
+      -- an undecided record is asked
+      gives-undecided : get_or fates i 0 ≡ undecided_number → gives bad f i ≡ bad (read_of f i)
+      unfolding gives
+      gives-undecided same = rw (e, get_or-map is_undecided fates i 0 false h, eq-eqb _ _ same)
 
-  module _ (fates : List ℕ) (e : f.entered ≡ map is_undecided fates) (i : ℕ) (h : i < length fates) where
-    -- an undecided record gives the refusals that it has a cause of
-    pub gives-undecided : get_or fates i 0 ≡ undecided_number → gives cause f i ≡ has_cause cause f.ops (read_of f i)
-    unfolding gives
-    gives-undecided same = rw (e, get_d-map-within is_undecided fates i 0 false h, eq-eqb _ _ same)
+      pub found_bad : get_or fates i 0 ≡ undecided_number → bad (read_of f i) ≡ true → lowest_bad bad f ≡ Some i
+      found_bad same is_bad = so_far ∙ rw (numbers_yes (gives bad f) (length f.clipped) i g (gives-undecided same ∙ is_bad))
 
-    -- and another none
-    pub gives_other : (get_or fates i 0 ≡ undecided_number → ⊥) → gives cause f i ≡ false
-    unfolding gives
-    gives_other differ = rw (e, get_d-map-within is_undecided fates i 0 false h, ne_eqb _ _ differ)
+      pub passed_good : get_or fates i 0 ≡ undecided_number → bad (read_of f i) ≡ false → lowest_bad bad f ≡ lowest_from (i + 1)
+      passed_good same is_good = passed (gives-undecided same ∙ is_good)
+
+      -- and another is not
+      pub passed_decided : (get_or fates i 0 ≡ undecided_number → ⊥) → lowest_bad bad f ≡ lowest_from (i + 1)
+      unfolding gives
+      passed_decided differ = passed (rw (e, get_or-map is_undecided fates i 0 false h, ne_eqb _ _ differ))

@@ -8,11 +8,12 @@ use native.Mathlib.Nat.{zero-add}
 use native.Mathlib.Omega.{arith}
 use borrow.Author.Tests.{eqb-true}
 use lib.ListN.{length, get_or, length-append}
+use Rattle.std.proofs.lemmas.Bool.{and_parts, false_from_ne_true}
+use Rattle.std.specs.Prelude.{Some, None, if◌then◌else◌}
 use Rattle.lists.specs.Count.{count_below}
 use Rattle.lists.specs.Numbers.{numbers_from}
-use Rattle.lists.proofs.Cases.{and_both, fails_of_never}
 use Rattle.lists.proofs.Count.{count_into, count-both}
-use Rattle.lists.proofs.Numbers.{numbers_at, numbers_after, length_numbers}
+use Rattle.lists.proofs.Numbers.{numbers_at, numbers_yes, numbers_after, length_numbers}
 use Rattle.codec_pairing.specs.Pairing.{is_namesake, namesakes_from, namesakes, remains, is_pair, is_first, is_entered, opens_pair, earlier_records, later_of}
 
 pub one_of_two : (a b k x : ℕ) → k < 2 → get_or (a ∷ b ∷ []) k 0 ≡ x → (a ≡ x) ⊎ (b ≡ x)
@@ -37,20 +38,20 @@ module _ (flags names : List ℕ) (verdicts : List Bool) where
   -- the earlier record of a pair remains, and has no namesake but the later
   pub opens_entered : (i : ℕ) → opens_pair flags names verdicts i ≡ true → is_entered flags names verdicts i ≡ true
   unfolding opens_pair
-  opens_entered i opens = (and_both _ _ opens).0
+  opens_entered i opens = (and_parts _ _ opens).0
 
   pub opens_namesakes : (i : ℕ) → opens_pair flags names verdicts i ≡ true → namesakes flags names i ≡ i ∷ later_of flags names i ∷ []
   unfolding opens_pair is_entered later_of
   opens_namesakes i opens =
-      let t = and_both _ _ opens in
-      rw (first_is i (namesakes flags names i) t.1) at (pair_two verdicts (namesakes flags names i) (and_both (remains (get_or flags i 0)) _ t.0).1)
+      let t = and_parts _ _ opens in
+      rw (first_is i (namesakes flags names i) t.1) at (pair_two verdicts (namesakes flags names i) (and_parts (remains (get_or flags i 0)) _ t.0).1)
 
   -- a record of the list has the name, and remains
   pub namesakes_at : (i k : ℕ) → k < length (namesakes flags names i) → let x = get_or (namesakes flags names i) k 0 in (x < length flags) × (get_or names x 0 ≡ get_or names i 0) × (remains (get_or flags x 0) ≡ true)
   unfolding namesakes_from is_namesake
   namesakes_at i k h =
       let t = numbers_at (is_namesake flags names (get_or names i 0)) 0 (length flags - 0) k h in
-      let u = and_both _ _ t.2 in
+      let u = and_parts _ _ t.2 in
       (omega arith, eqb-true _ _ u.0, u.1)
 
   -- the later record of a pair comes after the earlier
@@ -69,7 +70,7 @@ module _ (flags names : List ℕ) (verdicts : List Bool) where
 
   pub later_opens_not : (i : ℕ) → opens_pair flags names verdicts i ≡ true → opens_pair flags names verdicts (later_of flags names i) ≡ false
   later_opens_not i opens =
-      fails_of_never _ (λ also.
+      false_from_ne_true _ (λ also.
       let same = ap (λ (name : ℕ). namesakes_from flags names name 0) (later_namesake i opens).1 in
       let heads = sym (opens_namesakes (later_of flags names i) also) ∙ same ∙ opens_namesakes i opens in
       let later-is-i : later_of flags names i ≡ i = cc in
@@ -91,18 +92,19 @@ module _ (flags names : List ℕ) (verdicts : List Bool) where
       let counted : length (numbers_from opens 0 n) ≡ count_below opens n = simp zero-add at (length_numbers opens 0 n) in
       omega (arith, count-both opens n)
 
-  -- also of those that were passed and are still to come
-  pub passed_half : (done more : List ℕ) → done ++ more ≡ earlier_records flags names verdicts → 2 * (length done + length more) ≤ length flags
-  passed_half done more e = omega (arith, earlier_half, length-append done more, ap length e)
+  -- so that with a pair still to come fewer have been passed
+  pub passed_half : (done : List ℕ) (i : ℕ) → i < length flags → opens_pair flags names verdicts i ≡ true
+      → done ++ numbers_from (opens_pair flags names verdicts) i (length flags - i) ≡ earlier_records flags names verdicts
+      → 2 * (length done + 1) ≤ length flags
+  passed_half done i h opens e =
+      let more = numbers_yes (opens_pair flags names verdicts) (length flags) i h opens in
+      omega (arith, earlier_half, ap length e, ap length more, length-append done (numbers_from (opens_pair flags names verdicts) i (length flags - i)))
 
-  -- what the answer of `later_of` tells
-  module _ (i r : ℕ) (e : r ≡ cond (opens_pair flags names verdicts i) (later_of flags names i) (length flags)) where
-    pub opens_of_later : r < length flags → (opens_pair flags names verdicts i ≡ true) × (r ≡ later_of flags names i)
-    opens_of_later h = go (opens_pair flags names verdicts i) refl e
-      where
-        go : (b : Bool) → opens_pair flags names verdicts i ≡ b → r ≡ cond b (later_of flags names i) (length flags) → (opens_pair flags names verdicts i ≡ true) × (r ≡ later_of flags names i)
-        go true opens e = (opens, e)
-        go false opens e = absurd (omega arith)
+-- what the answer of `later_of` tells
+pub opens_of_some : (opens : Bool) (later : ℕ) {r : ℕ} → Some r ≡ if opens then Some later else None → (opens ≡ true) × (r ≡ later)
+opens_of_some true later e = (refl, cc)
+opens_of_some false later e = cc
 
-    pub opens_not_of_later : length flags ≤ r → opens_pair flags names verdicts i ≡ false
-    opens_not_of_later h = fails_of_never _ (λ opens. let later = rw opens at e in omega (arith, (later_namesake i opens).0))
+pub opens_not_of_none : (opens : Bool) (later : ℕ) → None ≡ if opens then Some later else None → opens ≡ false
+opens_not_of_none true later e = cc
+opens_not_of_none false later e = refl

@@ -1,3 +1,4 @@
+pub mod Family
 pub mod Pairing
 pub mod Refusals
 pub mod Search

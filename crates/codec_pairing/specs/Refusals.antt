@@ -1,14 +1,12 @@
 -- Document 01, the table of refusals: 1 to 6, which are asked of a family before any step.
-use Rattle.std.specs.Prelude.{Bool, false, cond, not, ◌&&◌, ◌||◌, List, [], ◌∷◌, map, ◌≡◌, ℕ, ◌+◌, eqb, ltb, length, get_or}
-use Rattle.lists.specs.Every.{every}
+use Rattle.std.specs.Prelude.{Bool, false, cond, not, ◌&&◌, ◌||◌, List, [], ◌∷◌, map, Option, None, Some, slice_get, ◌≡◌, ℕ, ◌+◌, eqb, ltb, length, get_or}
+use Rattle.std.specs.List.{list_all}
 use Rattle.lists.specs.Numbers.{numbers_from}
 use Rattle.raw_bam.specs.Cigar.{is_operation, part_of, read_length, reference_length}
 use Rattle.caller.specs.Fates.{undecided_number}
 use Rattle.caller.specs.Refusals.{or_else}
 use Rattle.caller.specs.declared.refusal.Refusal.{Refusal}
 use Rattle.caller.specs.declared.refusal.Refusal.TheVariants.{NoRefusal, Refused}
-use Rattle.codec_pairing.specs.declared.refusal.Cause.{Cause}
-use Rattle.codec_pairing.specs.declared.refusal.Cause.TheVariants.{Part, Words, Bases, Place}
 use Rattle.codec_pairing.specs.declared.refusal.Read.{Read}
 
 abbrev pub ops_of : List ℕ → Read → List ℕ
@@ -20,7 +18,7 @@ bad_part words r = ltb words (r.start + r.count) || ltb 64 r.count
 
 -- 4: 'code above 8 or length 0'
 unfoldable pub bad_words : List ℕ → Bool
-bad_words part = not (every is_operation part)
+bad_words part = not (list_all is_operation part)
 
 -- 5: 'clipped length above 1,024, or not its operations' read bases'
 unfoldable pub bad_bases : ℕ → List ℕ → Bool
@@ -30,19 +28,18 @@ bad_bases clipped part = ltb 1024 clipped || not (eqb clipped (read_length part)
 unfoldable pub bad_place : ℕ → List ℕ → Bool
 bad_place position part = eqb position 0 || ltb 536870911 position || ltb 536870911 (reference_length part)
 
--- the table's column 'No.'
-abbrev pub refusal_number : Cause → ℕ
-refusal_number Part = 3
-refusal_number Words = 4
-refusal_number Bases = 5
-refusal_number Place = 6
+-- the table's column 'Cause', of 3 to 6, for a record and all operation words
+abbrev pub has_bad_part : List ℕ → Read → Bool
+has_bad_part ops r = bad_part (length ops) r
 
--- the table's column 'Cause'
-unfoldable pub has_cause : Cause → List ℕ → Read → Bool
-has_cause Part ops r = bad_part (length ops) r
-has_cause Words ops r = bad_words (ops_of ops r)
-has_cause Bases ops r = bad_bases r.clipped_length (ops_of ops r)
-has_cause Place ops r = bad_place r.position (ops_of ops r)
+abbrev pub has_bad_words : List ℕ → Read → Bool
+has_bad_words ops r = bad_words (ops_of ops r)
+
+abbrev pub has_bad_bases : List ℕ → Read → Bool
+has_bad_bases ops r = bad_bases r.clipped_length (ops_of ops r)
+
+abbrev pub has_bad_place : List ℕ → Read → Bool
+has_bad_place ops r = bad_place r.position (ops_of ops r)
 
 -- a family's records as columns, with all operation words and which records are *entered*
 pub record Reads : Type 0 where
@@ -63,21 +60,25 @@ read_of f i =
     }
 
 -- only an entered record gives a refusal
-unfoldable pub gives : Cause → Reads → ℕ → Bool
-gives cause f i = get_or f.entered i false && has_cause cause f.ops (read_of f i)
-
--- the first of the records, which stand in order
-abbrev pub lowest : ℕ → List ℕ → Refusal
-lowest number [] = NoRefusal
-lowest number (i ∷ later) = Refused number i
+unfoldable pub gives : (Read → Bool) → Reads → ℕ → Bool
+gives bad f i = get_or f.entered i false && bad (read_of f i)
 
 -- 'then lowest record'
-unfoldable pub refused_by : Cause → Reads → Refusal
-refused_by cause f = lowest (refusal_number cause) (numbers_from (gives cause f) 0 (length f.clipped))
+unfoldable pub lowest_bad : (Read → Bool) → Reads → Option ℕ
+lowest_bad bad f = slice_get (numbers_from (gives bad f) 0 (length f.clipped)) 0
+
+-- by the table's column 'No.'
+abbrev pub refused_at : ℕ → Option ℕ → Refusal
+refused_at number None = NoRefusal
+refused_at number (Some i) = Refused number i
 
 -- 'Lowest number first', over all records
 unfoldable pub refusal_of_records : Reads → Refusal
-refusal_of_records f = or_else (refused_by Part f) (or_else (refused_by Words f) (or_else (refused_by Bases f) (refused_by Place f)))
+refusal_of_records f =
+    or_else (refused_at 3 (lowest_bad (has_bad_part f.ops) f))
+    (or_else (refused_at 4 (lowest_bad (has_bad_words f.ops) f))
+    (or_else (refused_at 5 (lowest_bad (has_bad_bases f.ops) f))
+    (refused_at 6 (lowest_bad (has_bad_place f.ops) f))))
 
 -- 1: 'minimum duplex length above 2,147,483,647', with 0; 2: 'over 512 records or 8,192 operation words', with 0; then 3 to 6
 unfoldable pub first_refusal : ℕ → ℕ → Reads → Refusal
@@ -100,9 +101,6 @@ reads fates clipped positions starts counts ops =
       entered = map is_undecided fates;
     }
 
--- the columns are equally long
-pub record Alike (fates clipped positions starts counts : List ℕ) : Type 0 where
-  pub as_many_fates : length fates ≡ length clipped
-  pub as_many_positions : length positions ≡ length clipped
-  pub as_many_starts : length starts ≡ length clipped
-  pub as_many_counts : length counts ≡ length clipped
+-- what a closure answers, as a test does
+abbrev pub Tests : (Read → Bool → Type 0) → (Read → Bool) → Type 0
+Tests post bad = (r : Read) (answer : Bool) → post r answer → answer ≡ bad r

@@ -1,3 +1,2 @@
-pub mod Fitting
-pub mod Holding
+pub mod Kept
 pub mod Words

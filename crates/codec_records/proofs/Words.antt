@@ -1,6 +1,6 @@
 -- Laws of marks: the words of a list of flags, and the flags of a side.
 use mathlib.Core.Bool.{Bool, true, false, cond, ◌||◌}
-use mathlib.Core.List.{List, [], ◌∷◌}
+use mathlib.Core.List.{List, [], ◌∷◌, ◌++◌, append-nil}
 use mathlib.Core.Path.{◌≡◌, refl, sym, ◌∙◌, ap, ap₂, fun_ext}
 use Prim.Native.Nat.{ℕ, zero, suc, ◌+◌, ◌-◌, ◌*◌, ◌^◌, ◌/◌, ◌%◌, ◌≤◌, ◌<◌, min}
 use native.Mathlib.Decide.{dec_lt, ℕ_discrete}
@@ -9,9 +9,11 @@ use native.Mathlib.Numerals.{add-one}
 use native.Mathlib.Omega.{arith}
 use borrow.Author.Tests.{eq-eqb, ne_eqb}
 use lib.Dec.{eqb}
-use lib.ListN.{length, get_or, set, take, drop, replicate, length-replicate, length-set, replicate-append-replicate, drop_of_length-le, get_or-append}
+use lib.ListN.{length, get_or, set, take, drop, replicate, length-replicate, length-set, replicate-append-replicate, drop_of_length-le, get_or-append, length-append}
 use lib.Pow.{pow_mono, shr-shr}
-use lib.Seq.{get_or-set_same, get_or-set_other, drop-cons, take-nil, ext_get_or, get_or-take, get_or-drop, length-take-le}
+use lib.Seq.{get_or-set_same, get_or-set_other, drop-cons, take-nil, ext_get_or, get_or-take, get_or-drop, length-take-le, take-append_seam, drop-append_seam}
+use Rattle.std.proofs.lemmas.List.{nil_from_length, take_all, drop-drop}
+use mir.Val.{bool_byte}
 use Rattle.lists.specs.Tabulate.{tabulate}
 use Rattle.lists.specs.Written.{written}
 use Rattle.lists.proofs.Places.{get_d_repeated}
@@ -25,6 +27,10 @@ use Rattle.lists.proofs.Parts.{part_within}
 pub word_more : (flags : List Bool) (i : ℕ) → i < length flags → word_of (drop i flags) ≡ cond (get_or flags i false) 1 0 + 2 * word_of (drop (i + 1) flags)
 unfolding word_of
 word_more flags i h = rw (add-one, drop-cons flags i false)
+
+pub bit_of : (flag : Bool) → bool_byte flag ≡ cond flag 1 0
+bit_of true = refl
+bit_of false = refl
 
 pub bit_below : (flag : Bool) → cond flag 1 0 < 2
 bit_below true = omega arith
@@ -42,10 +48,31 @@ word_below (flag ∷ flags) = one_more (length flags) (bit_below flag) (word_bel
 pub word_fits : (flags : List Bool) (bits : ℕ) → length flags ≤ bits → word_of flags < 2 ^ bits
 word_fits flags bits h = omega (arith, word_below flags, pow_mono h)
 
--- a word's part ends 64 flags on, or with the last flag
-pub word_part : (flags : List Bool) (w : ℕ) → 64 * w ≤ length flags → word_of (take (min (64 * w + 64) (length flags) - 64 * w) (drop (64 * w) flags)) ≡ word_at flags w
-unfolding word_at
-word_part flags w h = ap word_of (part_within flags (64 * w) 64 h)
+-- the flags from word w on begin with those of the word, and behind them are those of the next words
+module _ (flags rest part more : List Bool) (w : ℕ) (here : rest ≡ drop (64 * w) flags) (parts : rest ≡ part ++ more) (size : length part ≡ min 64 (length rest)) where
+  none_more : length rest < 64 → more ≡ []
+  none_more few = nil_from_length more (omega (arith, size, length-append part more, ap length parts))
+
+  chunk_is : Dec (length rest < 64) → take 64 rest ≡ part
+  chunk_is (yes few) = take_all 64 rest (omega arith) ∙ parts ∙ rw (none_more few) (append-nil part)
+  chunk_is (no many) =
+      let full : length part ≡ 64 = omega (arith, size, many) in
+      rw parts (rw full at (take-append_seam part more))
+
+  chunk-behind : Dec (length rest < 64) → drop 64 rest ≡ more
+  chunk-behind (yes few) = drop_of_length-le rest {i = 64} (omega arith) ∙ sym (none_more few)
+  chunk-behind (no many) =
+      let full : length part ≡ 64 = omega (arith, size, many) in
+      rw parts (rw full at (drop-append_seam part more))
+
+  pub chunk_word : word_of part ≡ word_at flags w
+  unfolding word_at
+  chunk_word = rw (← here) (ap word_of (sym (chunk_is (dec_lt (length rest) 64))))
+
+  pub chunk-next : more ≡ drop (64 * (w + 1)) flags
+  chunk-next =
+      let place : 64 * (w + 1) ≡ 64 * w + 64 = omega arith in
+      rw (place, ← drop-drop 64 (64 * w) flags, ← here) (sym (chunk-behind (dec_lt (length rest) 64)))
 
 -- a word that no flag reaches
 word_beyond : (flags : List Bool) (w : ℕ) → length flags ≤ 64 * w → word_at flags w ≡ 0
@@ -107,7 +134,7 @@ flagged_more r records flags h = ap₂ (tabulate {A = Bool}) (fun_ext (λ q. at 
     set_by true = refl
     set_by false = refl
 
-    at : (q : ℕ) → Dec (q ≡ r) → cond (eqb q r) true (is_in q records) || get_or flags q false ≡ is_in q records || get_or (set flags r true) q false
+    at : (q : ℕ) → Dec (q ≡ r) → (eqb q r || is_in q records) || get_or flags q false ≡ is_in q records || get_or (set flags r true) q false
     at q (yes e) = rw (eq-eqb q r e, e, get_or-set_same flags r true false h) (set_by (is_in r records))
     at q (no differ) = rw (ne_eqb q r differ, get_or-set_other flags r q true false differ)
 

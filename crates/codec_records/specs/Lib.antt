@@ -1,2 +1,4 @@
+pub mod Alike
 pub mod Marks
 pub mod Records
+pub mod Side

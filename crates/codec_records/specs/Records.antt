@@ -1,37 +1,24 @@
 -- The records of a family.
-use Rattle.std.specs.Prelude.{Bool, false, List, map, ◌≡◌, ℕ, ◌≤◌, ◌<◌, ℤ, pos, length, get_or, take}
+use Rattle.std.specs.Prelude.{false, cond, List, map, ◌≡◌, ℕ, ◌≤◌, ◌<◌, ltb, pos, length, get_or, take, drop}
 use Rattle.codec_records.specs.declared.columns.Columns.{Columns}
+use Rattle.codec_records.specs.declared.family.Family.{Family}
 use Rattle.codec_records.specs.declared.records.Record.{Record}
 
 -- a record of zeros, with which a table is filled up
 abbrev pub blank : Record
 blank = record { flags = 0; name = 0; verdict = false; rank = pos 0; clipped = 0; position = 0; start = 0; count = 0 }
 
--- columns with room for n records
-pub record ColumnsRoom (n : ℕ) (flags names : List ℕ) (verdicts : List Bool) (ranks : List ℤ) (clipped positions starts counts : List ℕ) : Type 0 where
-  pub flags_room : n ≤ length flags
-  pub names_room : n ≤ length names
-  pub verdicts_room : n ≤ length verdicts
-  pub ranks_room : n ≤ length ranks
-  pub clipped_room : n ≤ length clipped
-  pub positions_room : n ≤ length positions
-  pub starts_room : n ≤ length starts
-  pub counts_room : n ≤ length counts
+-- the operation words of record r
+abbrev pub operations_of : Family → ℕ → List ℕ
+operations_of f r = take (get_or f.counts.now r 0) (drop (get_or f.starts.now r 0) f.ops.now)
+
+-- how many records the columns take: none of too many
+abbrev pub room_of : ℕ → ℕ
+room_of given = cond (ltb 512 given) 0 given
 
 -- one field of each record
 abbrev pub column : {A : Type 0} → (Record → A) → List Record → List A
 column field records = map field records
-
--- every column has 512 places
-pub record Full (columns : Columns) : Type 0 where
-  pub flags_full : length columns.flags ≡ 512
-  pub names_full : length columns.names ≡ 512
-  pub verdicts_full : length columns.verdicts ≡ 512
-  pub ranks_full : length columns.ranks ≡ 512
-  pub clipped_full : length columns.clipped ≡ 512
-  pub positions_full : length columns.positions ≡ 512
-  pub starts_full : length columns.starts ≡ 512
-  pub counts_full : length columns.counts ≡ 512
 
 -- the first n places of each column are a field of n records
 pub record Holds (columns : Columns) (n : ℕ) (records : List Record) : Type 0 where
@@ -48,3 +35,17 @@ pub record Holds (columns : Columns) (n : ℕ) (records : List Record) : Type 0 
 -- every record of a side is one of the first n
 abbrev pub Below : List ℕ → ℕ → Type 0
 Below side n = (k : ℕ) → k < length side → get_or side k 0 < n
+
+-- a family that is lent the records that columns have room for
+pub record LendsFamily (columns : Columns) (ops : List ℕ) (family : Family) : Type 0 where
+  pub given_is : family.given ≡ columns.given
+  pub size : length family.flags.now ≡ room_of columns.given
+  pub flags_are : family.flags.now ≡ take (room_of columns.given) columns.flags
+  pub names_are : family.names.now ≡ take (room_of columns.given) columns.names
+  pub verdicts_are : family.verdicts.now ≡ take (room_of columns.given) columns.verdicts
+  pub ranks_are : family.ranks.now ≡ take (room_of columns.given) columns.ranks
+  pub clipped_are : family.clipped.now ≡ take (room_of columns.given) columns.clipped
+  pub positions_are : family.positions.now ≡ take (room_of columns.given) columns.positions
+  pub starts_are : family.starts.now ≡ take (room_of columns.given) columns.starts
+  pub counts_are : family.counts.now ≡ take (room_of columns.given) columns.counts
+  pub ops_are : family.ops.now ≡ ops

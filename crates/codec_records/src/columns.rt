@@ -1,12 +1,14 @@
 // The records of a family as columns, by value: a column for each field of a record.
-ghost use Rattle.std.specs.Prelude.{◌≤◌, take};
-ghost use Rattle.codec_records.specs.Records.{Full, Holds};
+ghost use Rattle.std.specs.Prelude.{◌≡◌, ◌≤◌, length, take};
+ghost use Rattle.codec_records.specs.Records.{Holds, LendsFamily};
 
+use crate::family::Family;
 use crate::records::Record;
 use crate::room::room;
 
 #[derive(Drop)]
 pub struct Columns {
+    pub given: usize,
     pub flags: [u16; 512],
     pub names: [u32; 512],
     pub verdicts: [bool; 512],
@@ -17,40 +19,54 @@ pub struct Columns {
     pub counts: [u32; 512],
 }
 
-pub(crate) fn blank() -> Columns
-    ensures { Full result }
+// Of a number of records that begin a slice, each field in its column; of more than 512 the number alone.
+pub fn gather(records: &[Record], given: usize) -> Columns
+    requires { given ≤ 512 → given ≤ length records.now }
+    ensures given { result.given ≡ given }
+    ensures held { given ≤ 512 → Holds result given (take given records.now) }
 {
-    Columns {
-        flags: [0u16; 512],
-        names: [0u32; 512],
+    let mut columns = Columns {
+        given,
+        flags: [0; 512],
+        names: [0; 512],
         verdicts: [false; 512],
-        ranks: [0i32; 512],
-        clipped: [0u32; 512],
-        positions: [0u32; 512],
-        starts: [0u32; 512],
-        counts: [0u32; 512],
-    }
-}
-
-// The first len records of a table; of too many, none.
-pub fn columns_of(table: [Record; 512], len: usize) -> Columns
-    ensures { len ≤ 512 → Holds result len (take len table) }
-{
-    let n = room(len);
-    let mut columns = blank();
-    let mut i = 0;
-    while i < n {
-        let record = table[i];
-        let rank = record.rank;
+        ranks: [0; 512],
+        clipped: [0; 512],
+        positions: [0; 512],
+        starts: [0; 512],
+        counts: [0; 512],
+    };
+    let n = room(given);
+    for (i, record) in records[..n].iter().enumerate() {
         columns.flags[i] = record.flags;
         columns.names[i] = record.name;
         columns.verdicts[i] = record.verdict;
-        columns.ranks[i] = rank;
+        columns.ranks[i] = record.rank;
         columns.clipped[i] = record.clipped;
         columns.positions[i] = record.position;
         columns.starts[i] = record.start;
         columns.counts[i] = record.count;
-        i += 1;
     }
     columns
+}
+
+impl Columns {
+    // The records that there is room for.
+    pub fn family<'a>(&'a self, ops: &'a [u32]) -> Family<'a>
+        ensures { LendsFamily self.now ops.now result }
+    {
+        let n = room(self.given);
+        Family {
+            given: self.given,
+            flags: &self.flags[..n],
+            names: &self.names[..n],
+            verdicts: &self.verdicts[..n],
+            ranks: &self.ranks[..n],
+            clipped: &self.clipped[..n],
+            positions: &self.positions[..n],
+            starts: &self.starts[..n],
+            counts: &self.counts[..n],
+            ops,
+        }
+    }
 }

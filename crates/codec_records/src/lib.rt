@@ -2,7 +2,9 @@
 #![tactic(auto)]
 
 pub mod columns;
+pub mod family;
 pub mod marks;
 pub mod options;
 pub mod records;
 pub mod room;
+pub mod side;

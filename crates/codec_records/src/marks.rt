@@ -1,6 +1,6 @@
 // The marks of a side's records: one bit a record, in eight words.
-ghost use Rattle.std.specs.Prelude.{cond, ◌≡◌, ◌+◌, ◌*◌, ◌≤◌, min, length};
-ghost use Rattle.codec_records.specs.Marks.{word_of, word_at, marks, flagged, side_flags};
+ghost use Rattle.std.specs.Prelude.{◌≡◌, ◌≤◌, length};
+ghost use Rattle.codec_records.specs.Marks.{word_of, marks, flagged, side_flags};
 ghost use Rattle.codec_records.specs.Records.{Below};
 
 // Sets the flag of each record of a side.
@@ -8,18 +8,9 @@ pub fn flag_records(side: &[usize], flags: &mut [bool])
     requires { Below side.now (length flags.old) }
     ensures { flags.new ≡ flagged side.now flags.old }
 {
-    let mut k = 0;
-    while k < side.len() {
-        let record = side[k];
+    for &record in side {
         flags[record] = true;
-        k += 1;
     }
-}
-
-fn bit_of(flag: bool) -> u64
-    ensures { result ≡ cond flag 1 0 }
-{
-    if flag { 1 } else { 0 }
 }
 
 // The word whose bits are up to 64 flags, the first flag lowest.
@@ -28,30 +19,10 @@ fn word_of(flags: &[bool]) -> u64
     ensures { result ≡ word_of flags.now }
 {
     let mut word = 0;
-    let mut i = flags.len();
-    while 0 < i {
-        i -= 1;
-        word = word * 2 + bit_of(flags[i]);
+    for &flag in flags.iter().rev() {
+        word = word * 2 + u64::from(flag);
     }
     word
-}
-
-// A word that starts at a flag ends 64 flags on, or with the last flag.
-fn word_end(start: usize, n: usize) -> usize
-    requires { start ≤ n }
-    ensures { result ≡ min (start + 64) n }
-{
-    if n - start < 64 { n } else { start + 64 }
-}
-
-// Word w of the marks; the last may have fewer than 64 flags.
-fn word_at(flags: &[bool], w: usize) -> u64
-    requires { 64 * w ≤ length flags.now }
-    ensures { result ≡ word_at flags.now w }
-{
-    let start = 64 * w;
-    let end = word_end(start, flags.len());
-    word_of(&flags[start..end])
 }
 
 // The marks of up to 512 flags. Words that no flag reaches are 0 from the start.
@@ -59,11 +30,9 @@ pub fn marks_of(flags: &[bool]) -> [u64; 8]
     requires { length flags.now ≤ 512 }
     ensures { result ≡ marks flags.now }
 {
-    let mut words = [0u64; 8];
-    let mut w = 0;
-    while 64 * w < flags.len() {
-        words[w] = word_at(flags, w);
-        w += 1;
+    let mut words = [0; 8];
+    for (w, part) in flags.chunks(64).enumerate() {
+        words[w] = word_of(part);
     }
     words
 }

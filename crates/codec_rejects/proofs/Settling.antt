@@ -7,8 +7,8 @@ use native.Mathlib.Omega.{arith}
 use borrow.Author.Tests.{eqb-true, eqb-false}
 use lib.Dec.{eqb}
 use lib.ListN.{length, get_or, length-map}
-use Rattle.lists.proofs.Cases.{cond_cases}
-use Rattle.lists.proofs.Map.{get_d-map-within}
+use Rattle.std.proofs.lemmas.Bool.{cond_both}
+use Rattle.std.proofs.lemmas.List.{get_or-map}
 use Rattle.caller.specs.Fates.{undecided_number, used_number, first_fate}
 use Rattle.codec_rejects.specs.Fates.{AreFates, settled}
 
@@ -19,7 +19,7 @@ module _ (fate : ℕ) (fates : List ℕ) where
 
   pub get_d-settled : (i : ℕ) → i < length fates → get_or (settled fate fates) i 0 ≡ first_fate fate (get_or fates i 0)
   unfolding settled
-  get_d-settled i h = get_d-map-within (first_fate fate) fates i 0 0 h
+  get_d-settled i h = get_or-map (first_fate fate) fates i 0 0 h
 
   -- what holds of each fate that is kept, and of the one that falls
   settled_each : (P : ℕ → Type 0) → ((i : ℕ) → i < length fates → (get_or fates i 0 ≡ undecided_number → ⊥) → P (get_or fates i 0)) → P fate
@@ -27,7 +27,7 @@ module _ (fate : ℕ) (fates : List ℕ) where
   settled_each P kept falls i h =
       let within : i < length fates = rw length-settled at h in
       rw (get_d-settled i within)
-      (cond_cases P (eqb (get_or fates i 0) undecided_number) (λ e. falls) (λ e. kept i within (eqb-false (get_or fates i 0) undecided_number e)))
+      (cond_both (eqb (get_or fates i 0) undecided_number) _ _ P (λ e. falls) (λ e. kept i within (eqb-false (get_or fates i 0) undecided_number e)))
 
   pub settled-fates : AreFates fates → fate ≤ used_number → AreFates (settled fate fates)
   settled-fates known few = settled_each (λ own. own ≤ used_number) (λ i h some. known i h) few

@@ -1,7 +1,8 @@
 -- Refusals 10 and 11 of two ledgers are those of one with no count but families.
-use mathlib.Core.Bool.{true, false, false≢true}
+use mathlib.Core.Bool.{Bool, true, false, ◌||◌, false≢true}
 use mathlib.Core.Path.{◌≡◌, refl, sym, ◌∙◌}
 use Prim.Native.Nat.{ℕ}
+use Rattle.std.proofs.lemmas.Bool.{or_parts}
 use Rattle.caller.specs.Refusals.{is_refusal, or_else, refused_if}
 use Rattle.caller.specs.declared.refusal.Refusal.TheVariants as refusals
 use Rattle.caller.proofs.Refusals.{neither_refuses}
@@ -28,29 +29,34 @@ module _ (run own : Ledger) where
   refused_as : (n number : ℕ) → of_counts (with_families n) ≡ refusals.Refused number 0 → of_books run own ≡ refusals.Refused number 0 → Decides run own (with_families n)
   refused_as n number said due = record { refuses = said ∙ sym due; else_fresh = λ none. absurd (false≢true (sym (rw due at none))) }
 
-  pub run_large : too_large run ≡ true → Decides run own (with_families 268435457)
+  -- the tests of both ledgers in turn
+  pub some_large : too_large run || too_large own ≡ true → Decides run own (with_families 268435457)
   unfolding of_books
-  run_large large = refused_as 268435457 10 too_many (rw large)
+  some_large large = refused_as 268435457 10 too_many (go (too_large run) (too_large own) large)
+    where
+      go : (a b : Bool) → a || b ≡ true → or_else (refused_if a 10 0) (or_else (refused_if b 10 0) (or_else (refused_if (full run) 11 0) (refused_if (full own) 11 0))) ≡ refusals.Refused 10 0
+      go true b e = refl
+      go false true e = refl
+      go false false e = absurd (false≢true e)
 
-  -- neither is too large, or both have room for one family more
-  module _ (run_small : too_large run ≡ false) where
-    pub own_large : too_large own ≡ true → Decides run own (with_families 268435457)
+  module _ (small : too_large run || too_large own ≡ false) where
+    none_large : (too_large run ≡ false) × (too_large own ≡ false)
+    none_large = or_parts (too_large run) (too_large own) small
+
+    pub some_full : full run || full own ≡ true → Decides run own (with_families 268435456)
     unfolding of_books
-    own_large large = refused_as 268435457 10 too_many (rw (run_small, large))
+    some_full up = refused_as 268435456 11 at_limit (rw (none_large.0, none_large.1) (go (full run) (full own) up))
+      where
+        go : (a b : Bool) → a || b ≡ true → or_else (refused_if a 11 0) (refused_if b 11 0) ≡ refusals.Refused 11 0
+        go true b e = refl
+        go false true e = refl
+        go false false e = absurd (false≢true e)
 
-    module _ (own-small : too_large own ≡ false) where
-      pub run_full : full run ≡ true → Decides run own (with_families 268435456)
-      unfolding of_books
-      run_full up = refused_as 268435456 11 at_limit (rw (run_small, own-small, up))
-
-      module _ (run_room : full run ≡ false) where
-        pub own_full : full own ≡ true → Decides run own (with_families 268435456)
-        unfolding of_books
-        own_full up = refused_as 268435456 11 at_limit (rw (run_small, own-small, run_room, up))
-
-        pub neither : full own ≡ false → Decides run own (with_families 0)
-        unfolding of_books
-        neither Own-room = record { refuses = no_family ∙ sym (rw (run_small, own-small, run_room, Own-room)); else_fresh = λ none. refl }
+    pub none_full : full run || full own ≡ false → Decides run own (with_families 0)
+    unfolding of_books
+    none_full room =
+        let both = or_parts (full run) (full own) room in
+        record { refuses = no_family ∙ sym (rw (none_large.0, none_large.1, both.0, both.1)); else_fresh = λ none. refl }
 
   -- where neither refuses, neither is too large
   pub both_small : is_refusal (of_books run own) ≡ false → (too_large run ≡ false) × (too_large own ≡ false)

@@ -16,10 +16,12 @@ use Rattle.caller.specs.declared.refusal.Refusal.{Refusal}
 use Rattle.caller.specs.declared.refusal.Refusal.TheVariants as refusals
 use Rattle.caller.proofs.Refusals.{neither_refuses}
 use Rattle.codec_stats.specs.Ledger.{Counts, fresh, of_counts, plus, Addable}
+use Rattle.codec_stats.specs.Counts.{counts_of}
 use Rattle.codec_stats.specs.declared.ledger.Ledger.{Ledger}
+use Rattle.codec_stats.proofs.Counts.{reasons_back}
 use Rattle.codec_stats.proofs.Adding.{plus_ten}
-use Rattle.sample_ledgers.specs.Samples.{counts_of, ledger_at, samples_of}
-use Rattle.sample_ledgers.proofs.Flat.{reasons_back, sample_read_lem, sample_put}
+use Rattle.sample_ledgers.specs.Samples.{ledger_at, samples_of}
+use Rattle.sample_ledgers.proofs.Flat.{sample_read_lem, sample_put}
 use Rattle.codec_family.specs.Answer.{says_refused}
 use Rattle.codec_family.specs.Call.{Call, Lent}
 use Rattle.codec_family.specs.Counted.{counted, after_call}

@@ -17,7 +17,7 @@ use codec_family::answer::{FamilyAnswer, report};
 use codec_family::ending::Ending;
 use codec_records::options::Options;
 use codec_stats::ledger::Ledger;
-use sample_ledgers::samples::ledger_in;
+use sample_ledgers::samples::{SAMPLE_COUNTS, read_sample};
 
 // What the call counts is added to the run's ledger and to its own sample's; 20 comes before all else.
 pub fn consensus_reads_sampled(
@@ -36,7 +36,7 @@ pub fn consensus_reads_sampled(
     r2_errors: &[u16],
     ledger: Ledger,
     sample: u32,
-    samples: &mut [u64; 1920],
+    samples: &mut [u64; SAMPLE_COUNTS],
     d_bases: &mut [u8],
     d_quals: &mut [u8],
     d_depths: &mut [u16],
@@ -73,7 +73,7 @@ pub fn consensus_reads_sampled(
         };
     }
     let at = sample as usize;
-    let own = ledger_in(samples, at);
+    let own = read_sample(samples, at);
     let deciding = deciding_ledger(ledger, own);
     let answer = consensus_reads_raw(
         chosen, len, options, has_r1, r1_bases, r1_quals, r1_depths, r1_errors, has_r2, r2_bases,

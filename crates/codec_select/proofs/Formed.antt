@@ -9,14 +9,16 @@ use lib.IntN.{ℤ}
 use lib.ListN.{length, take, length-take}
 use Rattle.caller.specs.Reasons.{number_of}
 use Rattle.caller.specs.declared.reason.RejectionReason.TheVariants.{Downsampled}
-use Rattle.codec_select.specs.Alignments.{Alignments, Admissible, Formed, Sided, EnteredAdmissible}
+use Rattle.codec_select.specs.Alignments.{Alignments, Admissible, Formed, EnteredAdmissible}
 use Rattle.codec_pairing.specs.Pairing.{side_r1, side_r2}
 use Rattle.codec_records.specs.Records.{Below}
-use Rattle.codec_sides.specs.Side.{kept, dropped, under_cap, given_fate, Fills, capped, with_excess}
+use Rattle.codec_records.specs.Side.{kept}
+use Rattle.codec_sides.specs.Side.{dropped, under_cap, given_fate, capped, with_excess}
 use Rattle.codec_select.specs.Steps.{is_in_group, grouped, cap_is_zero}
 use Rattle.codec_records.specs.declared.options.Options.{Options}
 use Rattle.codec_pairing.proofs.Entered.{length-side_r2, sides_half, side_r1_entered, side_r2_entered}
-use Rattle.codec_sides.proofs.Keeping.{length-kept, kept_each, length-given_fate}
+use Rattle.codec_sides.proofs.Keeping.{length-given_fate}
+use Rattle.codec_records.proofs.Kept.{length-kept, kept_each}
 use Rattle.codec_sides.proofs.Remaining.{group_nonempty, cap_nonempty}
 use borrow.Author.Tests.{eqb-false}
 
@@ -58,12 +60,6 @@ length-with_excess o ranks side fates = by o.has_max_reads_per_strand
     by true = length-given_fate (number_of Downsampled) excess fates
     by false = refl
 
--- a count of the first places of a column
-count-within : (n : ℕ) (column : List ℕ) → n ≡ length (take n column) → n ≤ length column
-count-within n column count =
-    let own = rw length-take at count in
-    omega arith
-
 -- the sides that step 2 enters
 module _ (a : Alignments) (names : List ℕ) (verdicts : List Bool) (entered : EnteredAdmissible a names verdicts) (room : length a.flags ≤ 512) where
   pub side_r1_formed : 0 < length (side_r1 a.flags names verdicts) → Formed a (side_r1 a.flags names verdicts)
@@ -83,32 +79,7 @@ module _ (a : Alignments) (names : List ℕ) (verdicts : List Bool) (entered : E
         admissible = λ k h. let own = side_r2_entered a.flags names verdicts k (rw same at h) in entered _ own.0 own.1;
       }
 
-module _ {xs : List ℕ} {n : ℕ} {column : List ℕ} (fills : Fills xs n column) where
-  pub fills_count : n ≡ length (take n column)
-  fills_count = fills.count ∙ sym (ap length fills.front)
-
-  pub fills_within : n ≤ length column
-  fills_within = count-within n column fills_count
-
--- where the family is not kept, no place is filled
-pub fills_if : (test : Bool) {xs : List ℕ} {n : ℕ} {column : List ℕ} → Fills xs n column → Fills (cond test xs []) (cond test n 0) column
-fills_if true fills = fills
-fills_if false fills = record { count = refl; front = refl }
-
--- a side that fills the first places of a column
-pub formed_sided : {a : Alignments} {ranks : List ℤ} {fates side column : List ℕ} {n : ℕ}
-    → Formed a side → Fills side n column → Below side (length ranks) → Below side (length fates) → Sided a ranks fates column n
-formed_sided {a} formed fills ranked fated =
-    record {
-      formed = rw fills.front formed;
-      ranked = rw fills.front ranked;
-      fated = rw fills.front fated;
-      count = fills_count fills;
-    }
-
-module _ {a : Alignments} {ranks : List ℤ} {fates column : List ℕ} {n : ℕ} (side : Sided a ranks fates column n) where
-  pub sided_within : n ≤ length column
-  sided_within = count-within n column side.count
-
-  pub sided_few : n ≤ 256
-  sided_few = omega (arith, side.count, side.formed.few)
+-- the records of such a side are in every column
+module _ (a : Alignments) {side : List ℕ} (formed : Formed a side) where
+  pub formed-below : (n : ℕ) → n ≡ length a.flags → Below side n
+  formed-below n same k h = rw same (formed.admissible k h).has_flags

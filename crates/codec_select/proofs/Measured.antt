@@ -8,14 +8,16 @@ use borrow.Author.Tests.{eqb-false}
 use lib.Dec.{eqb}
 use lib.IntN.{ℤ}
 use lib.ListN.{length, length-map}
-use Rattle.lists.proofs.Cases.{cond_cases, or_neither}
+use Rattle.std.proofs.lemmas.Bool.{cond_both, or_parts}
 use Rattle.caller.specs.declared.refusal.Refusal.TheVariants.{NoRefusal}
 use Rattle.codec_window.proofs.Lengths.{kept-measured}
-use Rattle.codec_window.specs.Window.{Alignment, Admitted, overlap}
+use Rattle.codec_window.specs.Alignment.{Alignment, Admitted}
+use Rattle.codec_window.specs.Window.{overlap}
+use Rattle.std.proofs.Common.{Result, Ok, Err}
+use Rattle.caller.specs.declared.reason.RejectionReason.{RejectionReason}
 use Rattle.codec_window.specs.declared.window.Overlap.{Overlap}
-use Rattle.codec_window.specs.declared.window.Overlap.TheVariants as overlaps
 use Rattle.codec_pairing.specs.Pairing.{side_r1, side_r2}
-use Rattle.codec_pairing.specs.Refusals.{Alike, reads}
+use Rattle.codec_pairing.specs.Refusals.{reads}
 use Rattle.codec_select.specs.Alignments.{Alignments, alignment_of, alignments_of, Formed}
 use Rattle.codec_records.specs.Records.{column}
 use Rattle.codec_select.specs.Selection.{course_of}
@@ -26,7 +28,7 @@ use Rattle.codec_records.specs.declared.records.Record.{Record}
 use Rattle.codec_select.specs.declared.selection.Decision.{Decision}
 use Rattle.codec_select.specs.declared.selection.Decision.TheVariants as decisions
 use Rattle.codec_sides.proofs.Most.{longest_within}
-use Rattle.codec_select.proofs.Admitting.{entered_admissible}
+use Rattle.codec_select.proofs.Admitting.{Alike, entered_admissible}
 use Rattle.codec_select.proofs.Formed.{grouped_formed, capped_formed, side_r1_formed, side_r2_formed}
 use Rattle.codec_select.proofs.Sound.{within_limits_lem}
 
@@ -53,35 +55,35 @@ module _ (o : Options) (ranks : List ℤ) (a : Alignments) where
       second : Alignment
       second = alignment_of a (longest_record a r2)
 
-      go : (w : Overlap) → overlap first second (is_negative a r1) o.legacy_overlap_window o.min_duplex_length ≡ w → Measured (decision_of w (is_negative a r1) (is_negative a r2))
-      go (overlaps.Kept start end length) e =
-          let own = kept-measured first second (longest_admitted r1 f1) (longest_admitted r2 f2) (is_negative a r1) o.legacy_overlap_window o.min_duplex_length start end length e in
+      go : (w : Result Overlap RejectionReason) → overlap first second (is_negative a r1) o.legacy_overlap_window o.min_duplex_length ≡ w → Measured (decision_of w (is_negative a r1) (is_negative a r2))
+      go (Ok kept) e =
+          let own = kept-measured first second (longest_admitted r1 f1) (longest_admitted r2 f2) (is_negative a r1) o.legacy_overlap_window o.min_duplex_length kept e in
           (own.some, own.few)
-      go (overlaps.Rejected reason) e = tt
+      go (Err reason) e = tt
 
   cap_measured : (r1 r2 fates : List ℕ) → Formed a r1 → Formed a r2 → Measured (from_cap o ranks a r1 r2 fates).decision
   unfolding from_cap
   cap_measured r1 r2 fates f1 f2 =
-      cond_cases (λ (out : Course). Measured out.decision) (too_few o r1 || too_few o r2 || cap_is_zero o) (λ _. tt)
+      cond_both (too_few o r1 || too_few o r2 || cap_is_zero o) _ _ (λ (out : Course). Measured out.decision) (λ _. tt)
       (λ e.
-      let none = (or_neither (too_few o r1 || too_few o r2) (cap_is_zero o) e).1 in
+      let none = (or_parts (too_few o r1 || too_few o r2) (cap_is_zero o) e).1 in
       window_measured (capped o ranks r1) (capped o ranks r2) _ (capped_formed a r1 o ranks none f1) (capped_formed a r2 o ranks none f2))
 
   sides_measured : (r1 r2 fates : List ℕ) → (0 < length r1 → Formed a r1 × Formed a r2) → Measured (from_sides o ranks a r1 r2 fates).decision
   unfolding from_sides
   sides_measured r1 r2 fates formed =
-      cond_cases (λ (out : Course). Measured out.decision) (eqb (length r1) 0) (λ _. tt)
+      cond_both (eqb (length r1) 0) _ _ (λ (out : Course). Measured out.decision) (λ _. tt)
       (λ e.
       let both = formed (omega (arith, eqb-false (length r1) 0 e)) in
-      cond_cases (λ (out : Course). Measured out.decision) (too_few o r1) (λ _. tt)
+      cond_both (too_few o r1) _ _ (λ (out : Course). Measured out.decision) (λ _. tt)
       (λ _. cap_measured (grouped a r1) (grouped a r2) _ (grouped_formed a r1 both.0) (grouped_formed a r2 both.1)))
 
 -- the columns of some records are equally long
-pub records_alike : (records : List Record) → Alike (column Record.flags records) (column Record.clipped records) (column Record.position records) (column Record.start records) (column Record.count records)
-records_alike records =
-    let size = sym (length-map records Record.clipped) in
+pub records_alike : (records : List Record) (ops : List ℕ) → Alike (alignments_of records ops)
+records_alike records ops =
+    let size = sym (length-map records Record.flags) in
     record {
-      as_many_fates = length-map records Record.flags ∙ size;
+      as_many_clipped = length-map records Record.clipped ∙ size;
       as_many_positions = length-map records Record.position ∙ size;
       as_many_starts = length-map records Record.start ∙ size;
       as_many_counts = length-map records Record.count ∙ size;
@@ -102,7 +104,7 @@ module _ (o : Options) (records : List Record) (ops : List ℕ) (none : refusal_
       let verdicts = column Record.verdict records in
       let a = alignments_of records ops in
       let few : length flags ≤ 512 = rw (length-map records Record.flags) few_records in
-      let entered = entered_admissible a names verdicts o.min_duplex_length (length records) (records_alike records) none in
+      let entered = entered_admissible a names verdicts o.min_duplex_length (length records) (records_alike records ops) none in
       rw none
       (sides_measured o (column Record.rank records) a (side_r1 flags names verdicts) (side_r2 flags names verdicts) (fates_of flags names verdicts)
       (λ some. (side_r1_formed a names verdicts entered few some, side_r2_formed a names verdicts entered few some)))

@@ -8,15 +8,16 @@ use borrow.Author.Tests.{eqb-true}
 use lib.Dec.{eqb}
 use lib.IntN.{ℤ}
 use lib.ListN.{length, get_or, length-map}
+use Rattle.std.proofs.lemmas.Bool.{cond_both}
 use Rattle.lists.specs.Member.{is_in}
-use Rattle.lists.proofs.Cases.{cond_cases}
 use Rattle.lists.proofs.Tabulate.{length-tabulate, get_d_tabulate}
 use Rattle.caller.specs.Fates.{undecided_number}
 use Rattle.caller.specs.declared.refusal.Refusal.TheVariants.{NoRefusal}
 use Rattle.raw_bam.specs.Flags.{paired_flag, has_flag}
 use Rattle.codec_window.specs.Window.{overlap}
+use Rattle.std.proofs.Common.{Result, Ok, Err}
+use Rattle.caller.specs.declared.reason.RejectionReason.{RejectionReason}
 use Rattle.codec_window.specs.declared.window.Overlap.{Overlap}
-use Rattle.codec_window.specs.declared.window.Overlap.TheVariants as overlaps
 use Rattle.codec_pairing.specs.Pairing.{fate_of, is_entered, not_primary, side_r1, side_r2}
 use Rattle.codec_pairing.specs.Refusals.{is_undecided}
 use Rattle.codec_pairing.proofs.Entered.{entered_in}
@@ -52,8 +53,8 @@ fate_so_far n fate records fates h s = (
   length-given_fate fate records fates ∙ s.0,
   λ i below.
       rw (get_d-given_fate fate records fates i 0 (rw s.0 below))
-      (cond_cases (λ own. own ≤ 11) (is_in i records)
-      (λ _. cond_cases (λ own. own ≤ 11) (eqb (get_or fates i 0) undecided_number) (λ _. h) (λ _. s.1 i below))
+      (cond_both (is_in i records) _ _ (λ own. own ≤ 11)
+      (λ _. cond_both (eqb (get_or fates i 0) undecided_number) _ _ (λ own. own ≤ 11) (λ _. h) (λ _. s.1 i below))
       (λ _. s.1 i below)),
 )
 
@@ -85,9 +86,9 @@ module _ (flags names : List ℕ) (verdicts : List Bool) where
           absurd (omega (arith, own.1))
       go (suc fate) e = omega arith
 
-ends_window : (o : Overlap) (r1 r2 : Bool) (n : ℕ) (fates : List ℕ) → Ends (decision_of o r1 r2) n fates
-ends_window (overlaps.Kept start end length) r1 r2 n fates = tt
-ends_window (overlaps.Rejected reason) r1 r2 n fates = tt
+ends_window : (o : Result Overlap RejectionReason) (r1 r2 : Bool) (n : ℕ) (fates : List ℕ) → Ends (decision_of o r1 r2) n fates
+ends_window (Ok kept) r1 r2 n fates = tt
+ends_window (Err reason) r1 r2 n fates = tt
 
 module _ (o : Options) (ranks : List ℤ) (a : Alignments) (n : ℕ) where
   minority_so_far : (side fates : List ℕ) → SoFar n fates → SoFar n (with_minority a side fates)
@@ -96,7 +97,7 @@ module _ (o : Options) (ranks : List ℤ) (a : Alignments) (n : ℕ) where
   excess_so_far : (side fates : List ℕ) → SoFar n fates → SoFar n (with_excess o ranks side fates)
   unfolding with_excess
   excess_so_far side fates s =
-      cond_cases (SoFar n) o.has_max_reads_per_strand
+      cond_both o.has_max_reads_per_strand _ _ (SoFar n)
       (λ _. fate_so_far n 5 (dropped side (under_cap ranks o.max_reads_per_strand side)) fates (omega arith) s)
       (λ _. s)
 
@@ -109,17 +110,17 @@ module _ (o : Options) (ranks : List ℤ) (a : Alignments) (n : ℕ) where
   cap_settled : (r1 r2 fates : List ℕ) → SoFar n fates → Settled n (from_cap o ranks a r1 r2 fates)
   unfolding from_cap
   cap_settled r1 r2 fates s =
-      cond_cases (Settled n) (too_few o r1 || too_few o r2 || cap_is_zero o)
+      cond_both (too_few o r1 || too_few o r2 || cap_is_zero o) _ _ (Settled n)
       (λ _. record { so_far = s; ends = tt })
       (λ _. window_settled (capped o ranks r1) (capped o ranks r2) _ (excess_so_far r2 _ (excess_so_far r1 fates s)))
 
   sides_settled : (r1 r2 fates : List ℕ) → SoFar n fates → (length r1 ≡ 0 → (i : ℕ) → i < n → 1 ≤ get_or fates i 0) → Settled n (from_sides o ranks a r1 r2 fates)
   unfolding from_sides
   sides_settled r1 r2 fates s none =
-      cond_cases (Settled n) (eqb (length r1) 0)
+      cond_both (eqb (length r1) 0) _ _ (Settled n)
       (λ e. record { so_far = s; ends = none (eqb-true (length r1) 0 e) })
       (λ _.
-      cond_cases (Settled n) (too_few o r1)
+      cond_both (too_few o r1) _ _ (Settled n)
       (λ _. record { so_far = s; ends = tt })
       (λ _. cap_settled (grouped a r1) (grouped a r2) _ (minority_so_far r2 _ (minority_so_far r1 fates s))))
 

@@ -7,43 +7,42 @@ use native.Mathlib.Omega.{arith}
 use borrow.Author.Tests.{ltb-false, eqb-true, eqb-false, not-false}
 use lib.Dec.{eqb, ltb}
 use lib.ListN.{length, get_or, length-take}
-use Rattle.lists.specs.Every.{every}
+use Rattle.std.specs.Prelude.{Option, None, Some, slice_get}
+use Rattle.std.specs.List.{list_all}
+use Rattle.std.proofs.lemmas.Bool.{or_parts, false_from_ne_true}
 use Rattle.lists.specs.Numbers.{numbers_from}
-use Rattle.lists.proofs.Cases.{or_neither, fails_of_never}
 use Rattle.lists.proofs.Numbers.{numbers_has}
 use Rattle.raw_bam.specs.Cigar.{is_operation, read_length, reference_length}
-use Rattle.codec_pairing.specs.declared.refusal.Cause.{Cause}
-use Rattle.codec_pairing.specs.declared.refusal.Cause.TheVariants.{Part, Words, Bases, Place}
 use Rattle.codec_pairing.specs.declared.refusal.Read.{Read}
 use Rattle.caller.specs.Refusals.{or_else}
 use Rattle.caller.specs.declared.refusal.Refusal.{Refusal}
 use Rattle.caller.specs.declared.refusal.Refusal.TheVariants.{NoRefusal, Refused}
-use Rattle.codec_pairing.specs.Refusals.{Reads, ops_of, bad_part, bad_words, bad_bases, bad_place, has_cause, read_of, gives, lowest, refused_by, refusal_of_records, first_refusal}
-use Rattle.codec_window.specs.Window.{alignment, Admitted}
+use Rattle.codec_pairing.specs.Refusals.{Reads, ops_of, bad_part, bad_words, bad_bases, bad_place, has_bad_part, has_bad_words, has_bad_bases, has_bad_place, read_of, gives, lowest_bad, refused_at, refusal_of_records, first_refusal}
+use Rattle.codec_window.specs.Alignment.{alignment_of, Admitted}
 
 -- what refusals 3 to 6 leave of a record
 pub record Sound (ops : List ℕ) (r : Read) : Type 0 where
   pub inside : r.start + r.count ≤ length ops
   pub few : r.count ≤ 64
-  pub operations : every is_operation (ops_of ops r) ≡ true
+  pub operations : list_all is_operation (ops_of ops r) ≡ true
   pub clipped : r.clipped_length ≡ read_length (ops_of ops r)
   pub short : r.clipped_length ≤ 1024
   pub placed : 0 < r.position
   pub near : r.position ≤ 536870911
   pub narrow : reference_length (ops_of ops r) ≤ 536870911
 
-sound : (ops : List ℕ) (r : Read) → ((cause : Cause) → has_cause cause ops r ≡ false) → Sound ops r
-unfolding has_cause bad_part bad_words bad_bases bad_place
-sound ops r none =
-    let part = or_neither (ltb (length ops) (r.start + r.count)) (ltb 64 r.count) (none Part) in
-    let bases = or_neither (ltb 1024 r.clipped_length) (not (eqb r.clipped_length (read_length (ops_of ops r)))) (none Bases) in
-    let place = or_neither (eqb r.position 0 || ltb 536870911 r.position) (ltb 536870911 (reference_length (ops_of ops r))) (none Place) in
-    let position = or_neither (eqb r.position 0) (ltb 536870911 r.position) place.0 in
+sound : (ops : List ℕ) (r : Read) → has_bad_part ops r ≡ false → has_bad_words ops r ≡ false → has_bad_bases ops r ≡ false → has_bad_place ops r ≡ false → Sound ops r
+unfolding bad_part bad_words bad_bases bad_place
+sound ops r good_part good_words good_bases good_place =
+    let part = or_parts (ltb (length ops) (r.start + r.count)) (ltb 64 r.count) good_part in
+    let bases = or_parts (ltb 1024 r.clipped_length) (not (eqb r.clipped_length (read_length (ops_of ops r)))) good_bases in
+    let place = or_parts (eqb r.position 0 || ltb 536870911 r.position) (ltb 536870911 (reference_length (ops_of ops r))) good_place in
+    let position = or_parts (eqb r.position 0) (ltb 536870911 r.position) place.0 in
     let some : r.position ≡ 0 → ⊥ = eqb-false r.position 0 position.0 in
     record {
       inside = ltb-false _ _ part.0;
       few = ltb-false _ _ part.1;
-      operations = not-false _ (none Words);
+      operations = not-false _ good_words;
       clipped = eqb-true _ _ (not-false _ bases.1);
       short = ltb-false _ _ bases.0;
       placed = omega arith;
@@ -59,9 +58,13 @@ both : (first next : Refusal) → or_else first next ≡ NoRefusal → (first �
 both NoRefusal next e = (refl, e)
 both (Refused number i) next e = let apart : ◌≡◌ {A = ℕ} 0 1 = cc in absurd (omega arith)
 
-none-listed : (number : ℕ) (records : List ℕ) → lowest number records ≡ NoRefusal → length records ≡ 0
-none-listed number [] e = refl
-none-listed number (i ∷ later) e = let apart : ◌≡◌ {A = ℕ} 0 1 = cc in absurd (omega arith)
+none_found : (number : ℕ) (found : Option ℕ) → refused_at number found ≡ NoRefusal → found ≡ None
+none_found number None e = refl
+none_found number (Some i) e = let apart : ◌≡◌ {A = ℕ} 0 1 = cc in absurd (omega arith)
+
+none-listed : (records : List ℕ) → slice_get records 0 ≡ None → length records ≡ 0
+none-listed [] e = refl
+none-listed (i ∷ later) e = cc
 
 module _ (minimum records : ℕ) (f : Reads) (none : first_refusal minimum records f ≡ NoRefusal) where
   -- refusals 1 and 2
@@ -70,37 +73,33 @@ module _ (minimum records : ℕ) (f : Reads) (none : first_refusal minimum recor
   within_limits_lem =
       let one = passed (ltb 2147483647 minimum) 1 0 _ none in
       let two = passed (ltb 512 records || ltb 8192 (length f.ops)) 2 0 (refusal_of_records f) one.1 in
-      let sizes = or_neither (ltb 512 records) (ltb 8192 (length f.ops)) two.0 in
+      let sizes = or_parts (ltb 512 records) (ltb 8192 (length f.ops)) two.0 in
       (ltb-false _ _ one.0, ltb-false _ _ sizes.0, ltb-false _ _ sizes.1, two.1)
 
-  by_each : (refused_by Part f ≡ NoRefusal) × (refused_by Words f ≡ NoRefusal) × (refused_by Bases f ≡ NoRefusal) × (refused_by Place f ≡ NoRefusal)
+  -- refusals 3 to 6: no record is bad
+  none_bad : (lowest_bad (has_bad_part f.ops) f ≡ None) × (lowest_bad (has_bad_words f.ops) f ≡ None) × (lowest_bad (has_bad_bases f.ops) f ≡ None) × (lowest_bad (has_bad_place f.ops) f ≡ None)
   unfolding refusal_of_records
-  by_each =
-      let part = both (refused_by Part f) _ within_limits_lem.3 in
-      let words = both (refused_by Words f) _ part.1 in
-      let bases = both (refused_by Bases f) (refused_by Place f) words.1 in
-      (part.0, words.0, bases.0, bases.1)
+  none_bad =
+      let part = both (refused_at 3 (lowest_bad (has_bad_part f.ops) f)) _ within_limits_lem.3 in
+      let words = both (refused_at 4 (lowest_bad (has_bad_words f.ops) f)) _ part.1 in
+      let bases = both (refused_at 5 (lowest_bad (has_bad_bases f.ops) f)) _ words.1 in
+      (none_found 3 _ part.0, none_found 4 _ words.0, none_found 5 _ bases.0, none_found 6 _ bases.1)
 
-  no_refusal : (cause : Cause) → refused_by cause f ≡ NoRefusal
-  no_refusal Part = by_each.0
-  no_refusal Words = by_each.1
-  no_refusal Bases = by_each.2
-  no_refusal Place = by_each.3
+  good : (bad : Read → Bool) → lowest_bad bad f ≡ None → (i : ℕ) → i < length f.clipped → get_or f.entered i false ≡ true → bad (read_of f i) ≡ false
+  unfolding lowest_bad gives
+  good bad none i h entered =
+      false_from_ne_true (bad (read_of f i))
+      (λ is_bad.
+      let at = numbers_has (gives bad f) 0 (length f.clipped) i (omega arith) (omega arith) (rw entered is_bad) in
+      let empty = none-listed (numbers_from (gives bad f) 0 (length f.clipped)) none in
+      omega (arith, at.1))
 
-  -- refusals 3 to 6, of an entered record
+  -- so that an entered one is sound
   pub entered_sound : (i : ℕ) → i < length f.clipped → get_or f.entered i false ≡ true → Sound f.ops (read_of f i)
-  unfolding refused_by gives
-  entered_sound i h entered =
-      sound f.ops (read_of f i)
-      (λ cause.
-      fails_of_never (has_cause cause f.ops (read_of f i))
-      (λ has.
-      let at = numbers_has (gives cause f) 0 (length f.clipped) i (omega arith) (omega arith) (rw entered has) in
-      let empty = none-listed _ (numbers_from (gives cause f) 0 (length f.clipped)) (no_refusal cause) in
-      omega (arith, at.1)))
+  entered_sound i h entered = sound f.ops (read_of f i) (good _ none_bad.0 i h entered) (good _ none_bad.1 i h entered) (good _ none_bad.2 i h entered) (good _ none_bad.3 i h entered)
 
 -- a sound record's alignment is one that steps 6 and 7 take
-pub sound-alignment : {ops : List ℕ} {r : Read} → Sound ops r → Admitted (alignment (record { position = r.position; clipped_length = r.clipped_length }) (ops_of ops r))
+pub sound-alignment : {ops : List ℕ} {r : Read} → Sound ops r → Admitted (alignment_of r.position r.clipped_length (ops_of ops r))
 sound-alignment {ops} {r} s =
     record {
       operations = simp length-take (omega (arith, s.few));

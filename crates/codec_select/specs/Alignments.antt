@@ -1,9 +1,10 @@
 -- The alignments of a family's records, as columns, and the operation words.
-use Rattle.std.specs.Prelude.{Bool, true, List, ◌≡◌, ℕ, ◌≤◌, ◌<◌, ℤ, length, get_or, take}
+use Rattle.std.specs.Prelude.{Bool, true, List, ◌≡◌, ℕ, ◌≤◌, ◌<◌, length, get_or}
 use Rattle.codec_pairing.specs.Pairing.{is_entered}
-use Rattle.codec_records.specs.Records.{column, Below}
+use Rattle.codec_records.specs.Records.{column}
 use Rattle.codec_sides.specs.Side.{HasOperations, operations_of}
-use Rattle.codec_window.specs.Window.{Alignment, Admitted}
+use Rattle.codec_window.specs.Alignment.{Alignment, Admitted}
+use Rattle.codec_records.specs.declared.family.Family.{Family}
 use Rattle.codec_records.specs.declared.records.Record.{Record}
 
 pub record Alignments : Type 0 where
@@ -22,6 +23,9 @@ abbrev pub alignments_of : List Record → List ℕ → Alignments
 alignments_of records ops =
     alignments (column Record.flags records) (column Record.clipped records) (column Record.position records) (column Record.start records)
     (column Record.count records) ops
+
+abbrev pub alignments_in : Family → Alignments
+alignments_in f = alignments f.flags.now f.clipped.now f.positions.now f.starts.now f.counts.now f.ops.now
 
 -- the alignment of record r
 abbrev pub alignment_of : Alignments → ℕ → Alignment
@@ -45,13 +49,6 @@ pub record Formed (a : Alignments) (side : List ℕ) : Type 0 where
   pub some : 0 < length side
   pub few : length side ≤ 256
   pub admissible : (k : ℕ) → k < length side → Admissible a (get_or side k 0)
-
--- such a side in the first n places of a column; its records have ranks and fates
-pub record Sided (a : Alignments) (ranks : List ℤ) (fates : List ℕ) (column : List ℕ) (n : ℕ) : Type 0 where
-  pub formed : Formed a (take n column)
-  pub ranked : Below (take n column) (length ranks)
-  pub fated : Below (take n column) (length fates)
-  pub count : n ≡ length (take n column)
 
 -- each record that is entered is admissible
 abbrev pub EnteredAdmissible : Alignments → List ℕ → List Bool → Type 0

@@ -1,23 +1,24 @@
 -- Document 01, 'A family', steps 3 to 7. A side is the list of its record numbers, in given order.
-use Rattle.std.specs.Prelude.{Bool, true, false, cond, ◌&&◌, ◌||◌, List, [], ◌≡◌, ℕ, eqb, ltb, ℤ, length, get_or}
+use Rattle.std.specs.Prelude.{Bool, true, false, cond, ◌&&◌, ◌||◌, List, [], ◌≡◌, ℕ, eqb, ltb, ℤ, length, get_or, Result, Ok, Err}
 use Rattle.lists.specs.Tabulate.{tabulate}
 use Rattle.caller.specs.Reasons.{number_of}
+use Rattle.caller.specs.declared.reason.RejectionReason.{RejectionReason}
 use Rattle.caller.specs.declared.reason.RejectionReason.TheVariants.{InsufficientReads, MinorityAlignment}
 use Rattle.raw_bam.specs.Flags.{reverse_flag, has_flag}
 use Rattle.codec_select.specs.Alignments.{Alignments, alignment_of}
 use Rattle.codec_pairing.specs.Pairing.{fate_of, side_r1, side_r2}
 use Rattle.codec_pairing.specs.Refusals.{reads, first_refusal}
-use Rattle.codec_sides.specs.Side.{in_group, kept, dropped, given_fate, capped, with_excess, longest_of, Fills}
-use Rattle.codec_window.specs.Window.{overlap}
+use Rattle.codec_records.specs.Side.{kept}
+use Rattle.codec_sides.specs.Side.{in_group, dropped, given_fate, capped, with_excess, longest_of}
+use Rattle.codec_window.specs.Window.{alignment, overlap}
 use Rattle.codec_records.specs.declared.options.Options.{Options}
 use Rattle.codec_select.specs.declared.overlapping.Longest.{Longest}
 use Rattle.caller.specs.declared.refusal.Refusal.{Refusal}
 use Rattle.caller.specs.declared.refusal.Refusal.TheVariants as refusals
 use Rattle.codec_select.specs.declared.selection.Decision.{Decision}
 use Rattle.codec_select.specs.declared.selection.Decision.TheVariants as decisions
-use Rattle.codec_select.specs.declared.selection.Sides.{Sides}
+use Rattle.codec_records.specs.declared.side.Sides.{Sides}
 use Rattle.codec_window.specs.declared.window.Overlap.{Overlap}
-use Rattle.codec_window.specs.declared.window.Overlap.TheVariants as overlaps
 
 -- what the steps make of a family: how they end, the records of each side that stay where it is kept, and the fate of each record so far
 pub record Course : Type 0 where
@@ -57,18 +58,14 @@ unfoldable pub is_negative : Alignments → List ℕ → Bool
 is_negative a side = has_flag (get_or a.flags (longest_record a side) 0) reverse_flag
 
 -- what steps 6 and 7 look at of a side
-abbrev pub longest_in : Alignments → List ℕ → Longest
-longest_in a side =
-    record {
-      number = longest_record a side;
-      is_negative = is_negative a side;
-      aligned = record { position = get_or a.positions (longest_record a side) 0; clipped_length = get_or a.clipped (longest_record a side) 0 };
-    }
+pub record IsLongest (a : Alignments) (side : List ℕ) (longest : Longest) : Type 0 where
+  pub aligned : alignment longest.aligned ≡ alignment_of a (longest_record a side)
+  pub orientation : longest.is_negative ≡ is_negative a side
 
 -- how steps 6 and 7 end the family
-abbrev pub decision_of : Overlap → Bool → Bool → Decision
-decision_of (overlaps.Kept start end length) r1_negative r2_negative = decisions.Kept start end length r1_negative r2_negative
-decision_of (overlaps.Rejected reason) r1_negative r2_negative = decisions.Rejected reason
+abbrev pub decision_of : Result Overlap RejectionReason → Bool → Bool → Decision
+decision_of (Ok o) r1_negative r2_negative = decisions.Kept o.window.start o.window.end o.length r1_negative r2_negative
+decision_of (Err reason) r1_negative r2_negative = decisions.Rejected reason
 
 -- steps 6 and 7
 unfoldable pub overlapping : Options → Alignments → List ℕ → List ℕ → Decision
@@ -124,9 +121,9 @@ selected o records names verdicts ranks a =
     unless_refused (refusal_of o records (fates_of a.flags names verdicts) a) (fates_of a.flags names verdicts)
     (from_sides o ranks a (side_r1 a.flags names verdicts) (side_r2 a.flags names verdicts) (fates_of a.flags names verdicts))
 
--- an outcome: the decision, the fates, and each side in the first places of a column
-pub record CourseIn (outcome : Course) (sides : Sides) (fates r1 r2 : List ℕ) : Type 0 where
-  pub decision : sides.decision ≡ outcome.decision
+-- an outcome: the decision, the fates, and each side
+pub record CourseIn (outcome : Course) (decision : Decision) (fates : List ℕ) (sides : Sides) : Type 0 where
+  pub decision_is : decision ≡ outcome.decision
   pub fates_are : fates ≡ outcome.fates
-  pub r1_fills : Fills outcome.r1 sides.r1 r1
-  pub r2_fills : Fills outcome.r2 sides.r2 r2
+  pub r1_is : sides.r1 ≡ outcome.r1
+  pub r2_is : sides.r2 ≡ outcome.r2

@@ -1,95 +1,70 @@
 // Steps 6 and 7 of the two sides: the longest record of each, and what they share.
-ghost use Rattle.std.specs.Prelude.{◌≡◌, ◌<◌, ◌^◌};
-ghost use Rattle.codec_select.specs.Alignments.{alignments, Admissible, Formed};
-ghost use Rattle.codec_select.specs.Steps.{longest_in, decision_of, overlapping};
+ghost use Rattle.std.specs.Prelude.{◌≡◌};
+ghost use Rattle.codec_select.specs.Alignments.{alignments_in, Formed};
+ghost use Rattle.codec_select.specs.Steps.{IsLongest, decision_of, overlapping};
 
 use crate::selection::Decision;
+use caller::reason::RejectionReason;
+use codec_records::family::Family;
 use codec_records::options::Options;
-use codec_sides::longest::{longest_of, operations_of};
-use codec_window::window::{Aligned, Overlap, overlap_of};
+use codec_sides::longest::longest_of;
+use codec_window::window::{Aligned, Overlap, Pair};
 use raw_bam::flags::is_reverse;
 
-#[derive(Drop)]
-pub struct Longest {
-    pub number: usize,
+#[derive(Clone, Copy)]
+pub struct Longest<'a> {
+    pub aligned: Aligned<'a>,
     pub is_negative: bool,
-    pub aligned: Aligned,
-}
-
-fn aligned(position: u32, clipped_length: u32) -> Aligned
-    ensures { result ≡ record { position = position; clipped_length = clipped_length } }
-{
-    Aligned {
-        position: position as u64,
-        clipped_length: clipped_length as u64,
-    }
 }
 
 // The longest of a side: of R1's, its orientation decides which side is negative.
-fn longest_record(
-    flags: &[u16],
-    clipped: &[u32],
-    positions: &[u32],
-    starts: &[u32],
-    counts: &[u32],
-    ops: &[u32],
-    side: &[usize],
-) -> Longest
-    requires { Formed (alignments flags.now clipped.now positions.now starts.now counts.now ops.now) side.now }
-    ensures value { result ≡ longest_in (alignments flags.now clipped.now positions.now starts.now counts.now ops.now) side.now }
-    ensures admissible { Admissible (alignments flags.now clipped.now positions.now starts.now counts.now ops.now) result.number }
+#[tactic(auto, unfolding(crate::specs::Steps::longest_record, crate::specs::Steps::is_negative))]
+fn longest_record<'a>(family: &Family<'a>, side: &[usize]) -> Longest<'a>
+    requires { Formed (alignments_in family.now) side.now }
+    ensures { IsLongest (alignments_in family.now) side.now result }
 {
-    let number = side[longest_of(ops, starts, counts, side)];
-    let is_negative = is_reverse(flags[number]);
-    let aligned = aligned(positions[number], clipped[number]);
+    let number = side[longest_of(family, side)];
     Longest {
-        number,
-        is_negative,
-        aligned,
+        aligned: Aligned {
+            ops: family.operations(number),
+            position: u64::from(family.positions[number]),
+            clipped_length: u64::from(family.clipped[number]),
+        },
+        is_negative: is_reverse(family.flags[number]),
     }
 }
 
-fn decide(overlap: Overlap, r1_is_negative: bool, r2_is_negative: bool) -> Decision
+fn decide(
+    overlap: Result<Overlap, RejectionReason>,
+    r1_is_negative: bool,
+    r2_is_negative: bool,
+) -> Decision
     ensures { result ≡ decision_of overlap r1_is_negative r2_is_negative }
 {
     match overlap {
-        Overlap::Kept { start, end, length } => Decision::Kept {
-            start,
-            end,
+        Ok(Overlap { window, length }) => Decision::Kept {
+            start: u64::from(window.start),
+            end: u64::from(window.end),
             length,
             r1_is_negative,
             r2_is_negative,
         },
-        Overlap::Rejected(reason) => Decision::Rejected(reason),
+        Err(reason) => Decision::Rejected(reason),
     }
 }
 
-pub fn overlap_of_sides(
-    flags: &[u16],
-    clipped: &[u32],
-    positions: &[u32],
-    starts: &[u32],
-    counts: &[u32],
-    ops: &[u32],
-    options: Options,
-    r1: &[usize],
-    r2: &[usize],
-) -> Decision
-    requires formed { Formed (alignments flags.now clipped.now positions.now starts.now counts.now ops.now) r1.now }
-    requires formed_2 { Formed (alignments flags.now clipped.now positions.now starts.now counts.now ops.now) r2.now }
-    requires min_duplex_length_bound { options.min_duplex_length < 2 ^ 31 }
-    ensures { result ≡ overlapping options (alignments flags.now clipped.now positions.now starts.now counts.now ops.now) r1.now r2.now }
+pub fn overlap_of_sides(family: &Family, options: Options, r1: &[usize], r2: &[usize]) -> Decision
+    requires formed { Formed (alignments_in family.now) r1.now }
+    requires formed_2 { Formed (alignments_in family.now) r2.now }
+    ensures { result ≡ overlapping options (alignments_in family.now) r1.now r2.now }
 {
-    let first = longest_record(flags, clipped, positions, starts, counts, ops, r1);
-    let second = longest_record(flags, clipped, positions, starts, counts, ops, r2);
-    let overlap = overlap_of(
-        operations_of(ops, starts, counts, first.number),
-        first.aligned,
-        operations_of(ops, starts, counts, second.number),
-        second.aligned,
-        first.is_negative,
-        options.legacy_overlap_window,
-        options.min_duplex_length,
-    );
+    let first = longest_record(family, r1);
+    let second = longest_record(family, r2);
+    let pair = Pair {
+        r1: first.aligned,
+        r2: second.aligned,
+        r1_is_negative: first.is_negative,
+    };
+    let overlap = pair.overlap(options.legacy_overlap_window, options.min_duplex_length);
     decide(overlap, first.is_negative, second.is_negative)
 }

@@ -16,14 +16,6 @@ pub enum Decision {
     Refused(u32, usize),
 }
 
-// The decision, and how many records of each side stay, which is 0 unless the decision is Kept.
-#[derive(Drop)]
-pub struct Sides {
-    pub decision: Decision,
-    pub r1: usize,
-    pub r2: usize,
-}
-
 // The decision, and the records of each side that stay as mark words, which are all 0 unless the decision is Kept.
 #[derive(Drop)]
 pub struct Selection {

@@ -4,8 +4,8 @@ use mathlib.Core.List.{List, [], ◌∷◌, map}
 use mathlib.Core.Path.{◌≡◌, refl, sym}
 use Prim.Native.Nat.{ℕ, zero, suc, ◌<◌}
 use lib.ListN.{length, get_or, take, length-map}
+use Rattle.std.proofs.lemmas.List.{get_or-map}
 use Rattle.lists.specs.Written.{written}
-use Rattle.lists.proofs.Map.{get_d-map-within}
 use Rattle.lists.proofs.Written.{take_count}
 use Rattle.raw_bam.specs.Simplified.{joined, simplified}
 use Rattle.vanilla_caller.specs.Side.{HasRecord, list_of}
@@ -30,8 +30,8 @@ module _ (ops starts counts : List ℕ) (is_reverse : List Bool) where
   pub has_gathered : (side : List ℕ) → HaveOperations ops starts counts side → (k : ℕ) → k < length side → HasRecord ops (gathered 0 starts side) (gathered 0 counts side) (gathered false is_reverse side) k
   has_gathered side has k h =
       let own = has k h in
-      let start = get_d-map-within (λ r. get_or starts r 0) side k 0 0 h in
-      let count = get_d-map-within (λ r. get_or counts r 0) side k 0 0 h in
+      let start = get_or-map (λ r. get_or starts r 0) side k 0 0 h in
+      let count = get_or-map (λ r. get_or counts r 0) side k 0 0 h in
       record {
         has_start = rw (length-gathered 0 starts side) h;
         has_count = rw (length-gathered 0 counts side) h;

@@ -9,8 +9,8 @@ use borrow.Author.Count.{below_more}
 use borrow.Author.Tests.{eq-eqb, ne_eqb}
 use lib.Dec.{eqb}
 use lib.ListN.{length, get_or, length-map}
-use Rattle.lists.proofs.Cases.{cond_cases}
-use Rattle.lists.proofs.Map.{get_d-map-within}
+use Rattle.std.proofs.lemmas.Bool.{cond_both}
+use Rattle.std.proofs.lemmas.List.{get_or-map}
 use Rattle.codec_sides.specs.Side.{most, place_of, place_of_most, longest_of, reference_bases_of}
 
 -- of the first k places, best has most, and is the earliest
@@ -56,12 +56,12 @@ leads-all xs best leads =
 -- at the end of the places of a list, whose elements have the numbers
 pub leads-map : (f : ℕ → ℕ) (xs : List ℕ) (best : ℕ) → Leads (λ j. f (get_or xs j 0)) best (length xs) → place_of_most (map f xs) ≡ best
 leads-map f xs best leads =
-    let own = get_d-map-within f xs best 0 0 leads.0 in
+    let own = get_or-map f xs best 0 0 leads.0 in
     leads-all (map f xs) best
     (rw (length-map xs f) (
       leads.0,
-      λ j below. rw (get_d-map-within f xs j 0 0 below, own) (leads.1 j below),
-      λ j below. rw (get_d-map-within f xs j 0 0 (omega arith), own) (leads.2 j below),
+      λ j below. rw (get_or-map f xs j 0 0 below, own) (leads.1 j below),
+      λ j below. rw (get_or-map f xs j 0 0 (omega arith), own) (leads.2 j below),
     ))
 
 -- a number that stands in a list has a place in it
@@ -69,7 +69,7 @@ place_within : (x : ℕ) (xs : List ℕ) (k : ℕ) → k < length xs → get_or 
 unfolding place_of
 place_within x [] k h e = absurd (omega arith)
 place_within x (y ∷ ys) zero h e = rw (eq-eqb y x e) (omega arith)
-place_within x (y ∷ ys) (suc k) h e = cond_cases (λ place. place < suc (length ys)) (eqb y x) (λ _. omega arith) (λ _. omega (arith, place_within x ys k (omega arith) e))
+place_within x (y ∷ ys) (suc k) h e = cond_both (eqb y x) _ _ (λ place. place < suc (length ys)) (λ _. omega arith) (λ _. omega (arith, place_within x ys k (omega arith) e))
 
 -- the largest of a list stands in it
 most_at : (x : ℕ) (xs : List ℕ) → (k : ℕ) × (k < length (x ∷ xs)) × (get_or (x ∷ xs) k 0 ≡ most (x ∷ xs))

@@ -13,7 +13,8 @@ use Rattle.caller.proofs.Lowest.{length-lowest_ranking, lowest-stays}
 use Rattle.vanilla_caller.proofs.Staying.{length-staying, some_staying}
 use Rattle.vanilla_caller.specs.Group.{staying}
 use Rattle.vanilla_caller.specs.Side.{list_of}
-use Rattle.codec_sides.specs.Side.{gathered, orientations, in_group, under_cap, kept, dropped}
+use Rattle.codec_records.specs.Side.{kept}
+use Rattle.codec_sides.specs.Side.{gathered, orientations, in_group, under_cap, dropped}
 use Rattle.codec_sides.proofs.Gathered.{length-gathered}
 
 -- where some record stays, one is kept

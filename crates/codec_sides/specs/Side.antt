@@ -1,5 +1,6 @@
 -- One side of a family, a list of record numbers, in document 01's steps 4 to 6, 'A family'.
 use Rattle.std.specs.Prelude.{Bool, cond, not, List, [], ◌∷◌, map, ◌≡◌, ℕ, suc, ◌+◌, ◌≤◌, ◌<◌, max, eqb, ℤ, pos, length, get_or, take}
+use Rattle.codec_records.specs.Side.{kept}
 use Rattle.lists.specs.Tabulate.{tabulate}
 use Rattle.caller.specs.Fates.{undecided_number, first_fate}
 use Rattle.caller.specs.Ranking.{lowest_ranking}
@@ -39,12 +40,6 @@ in_group ops clipped starts counts flags side =
 -- step 5: for each record of a side whether it stays under the read cap
 unfoldable pub under_cap : List ℤ → ℕ → List ℕ → List Bool
 under_cap ranks cap side = lowest_ranking (gathered (pos 0) ranks side) cap
-
--- the records of a side that stay, in given order
-unfoldable pub kept : List ℕ → List Bool → List ℕ
-kept [] stays = []
-kept (r ∷ side) [] = []
-kept (r ∷ side) (stays ∷ more) = cond stays (r ∷ kept side more) (kept side more)
 
 -- those that do not
 abbrev pub dropped : List ℕ → List Bool → List ℕ
@@ -90,8 +85,3 @@ place_of_most xs = place_of (most xs) xs
 -- step 6: the place of a side's longest, which has most reference bases, the earliest at a tie
 unfoldable pub longest_of : List ℕ → List ℕ → List ℕ → List ℕ → ℕ
 longest_of ops starts counts side = place_of_most (map (reference_bases_of ops starts counts) side)
-
--- a list fills the first n places of a column
-pub record Fills (xs : List ℕ) (n : ℕ) (column : List ℕ) : Type 0 where
-  pub count : n ≡ length xs
-  pub front : take n column ≡ xs

@@ -1,43 +1,36 @@
 // Step 6: the longest record of a side.
 ghost use Rattle.std.specs.Prelude.{◌≡◌, ◌<◌, length};
-ghost use Rattle.codec_sides.specs.Side.{HasOperations, HaveOperations, operations_of, reference_bases_of, longest_of};
+ghost use Rattle.codec_records.specs.Records.{Below};
+ghost use Rattle.codec_sides.specs.Family.{HasOperations, HaveOperations, reference_bases_of, longest_of};
 
+use codec_records::family::Family;
 use raw_bam::cigar::reference_length_from_cigar;
 
-// The part of the words that is a record's.
-pub fn operations_of<'a>(ops: &'a [u32], starts: &[u32], counts: &[u32], record: usize) -> &'a [u32]
-    requires { HasOperations ops.now starts.now counts.now «record» }
-    ensures { result.now ≡ operations_of ops.now starts.now counts.now «record» }
+#[tactic(auto, unfolding(crate::specs::Side::reference_bases_of))]
+fn reference_bases_of(family: &Family, record: usize) -> u64
+    requires in_bounds { «record» < length family.now.flags.now }
+    requires operations { HasOperations family.now «record» }
+    ensures { result ≡ reference_bases_of family.now «record» }
 {
-    let start = starts[record] as usize;
-    let end = start + counts[record] as usize;
-    &ops[start..end]
-}
-
-fn reference_bases_of(ops: &[u32], starts: &[u32], counts: &[u32], record: usize) -> u64
-    requires { HasOperations ops.now starts.now counts.now «record» }
-    ensures { result ≡ reference_bases_of ops.now starts.now counts.now «record» }
-{
-    reference_length_from_cigar(operations_of(ops, starts, counts, record))
+    reference_length_from_cigar(family.operations(record))
 }
 
 // The place of the longest in the side: of records that are equally long, the earliest.
-pub fn longest_of(ops: &[u32], starts: &[u32], counts: &[u32], side: &[usize]) -> usize
-    requires have_operations { HaveOperations ops.now starts.now counts.now side.now }
+pub fn longest_of(family: &Family, side: &[usize]) -> usize
+    requires have_operations { HaveOperations family.now side.now }
+    requires below { Below side.now (length family.now.flags.now) }
     requires side_nonzero { 0 < length side.now }
-    ensures value { result ≡ longest_of ops.now starts.now counts.now side.now }
+    ensures value { result ≡ longest_of family.now side.now }
     ensures upper_bound { result < length side.now }
 {
     let mut longest = 0;
-    let mut most = reference_bases_of(ops, starts, counts, side[0]);
-    let mut k = 1;
-    while k < side.len() {
-        let bases = reference_bases_of(ops, starts, counts, side[k]);
+    let mut most = reference_bases_of(family, side[0]);
+    for k in 1..side.len() {
+        let bases = reference_bases_of(family, side[k]);
         if most < bases {
             longest = k;
             most = bases;
         }
-        k += 1;
     }
     longest
 }

@@ -2,63 +2,57 @@
 ghost use Rattle.std.specs.Prelude.{◌≡◌, ◌≤◌, length};
 ghost use Rattle.lists.specs.Written.{written};
 ghost use Rattle.codec_records.specs.Records.{Below};
-ghost use Rattle.codec_sides.specs.Side.{HaveOperations, in_group, under_cap, kept, dropped, given_fate};
+ghost use Rattle.codec_sides.specs.Family.{HaveOperations, in_group, under_cap};
+ghost use Rattle.codec_sides.specs.Side.{dropped, given_fate};
 
-use crate::gather::{gather_ranks, gather_reverse, gather_u32};
+use crate::gather::gather;
 use caller::fates::first_fate;
 use caller::ranking::select_lowest_ranking;
+use codec_records::family::Family;
+use raw_bam::flags::is_reverse;
 use vanilla_caller::group::select_most_common_alignment_group;
+use vanilla_caller::side::Side;
 
-// Writes for each record of a side of up to 256 whether it is in the most common alignment group.
-pub fn filter_to_most_common_alignment_raw(
-    ops: &[u32],
-    clipped: &[u32],
-    starts: &[u32],
-    counts: &[u32],
-    flags: &[u16],
-    side: &[usize],
-    stays: &mut [bool],
-)
-    requires have_operations { HaveOperations ops.now starts.now counts.now side.now }
-    requires below { Below side.now (length clipped.now) }
-    requires below_2 { Below side.now (length flags.now) }
+// Writes for each record of a side of up to 256 whether it is in the most common alignment group. Its orientation is by its own flag.
+pub fn filter_to_most_common_alignment_raw(family: &Family, side: &[usize], stays: &mut [bool])
+    requires have_operations { HaveOperations family.now side.now }
+    requires below { Below side.now (length family.now.flags.now) }
     requires side_len_bound { (length side.now ≤ 256) × (length side.now ≤ length stays.old) }
-    ensures { stays.new ≡ written (in_group ops.now clipped.now starts.now counts.now flags.now side.now) stays.old }
+    ensures { stays.new ≡ written (in_group family.now side.now) stays.old }
 {
     let n = side.len();
-    let mut own_clipped = [0u32; 256];
-    gather_u32(clipped, side, &mut own_clipped);
-    let mut own_starts = [0u32; 256];
-    gather_u32(starts, side, &mut own_starts);
-    let mut own_counts = [0u32; 256];
-    gather_u32(counts, side, &mut own_counts);
+    let mut clipped = [0; 256];
+    gather(side, &mut clipped, |r| family.clipped[r]);
+    let mut starts = [0; 256];
+    gather(side, &mut starts, |r| family.starts[r]);
+    let mut counts = [0; 256];
+    gather(side, &mut counts, |r| family.counts[r]);
     let mut reverse = [false; 256];
-    gather_reverse(flags, side, &mut reverse);
-    select_most_common_alignment_group(
-        ops,
-        &own_clipped[..n],
-        &own_starts[..n],
-        &own_counts[..n],
-        &reverse[..n],
-        stays,
-    );
+    gather(side, &mut reverse, |r| is_reverse(family.flags[r]));
+    let records = Side {
+        ops: family.ops,
+        clipped: &clipped[..n],
+        starts: &starts[..n],
+        counts: &counts[..n],
+        reverse: &reverse[..n],
+    };
+    select_most_common_alignment_group(&records, stays);
 }
 
 // Writes for each record of a side of up to 256 whether it stays under the read cap.
 pub fn cap_infos_to_lowest_ranking(
-    ranks: &[i32],
+    family: &Family,
     max_reads: u64,
     side: &[usize],
     stays: &mut [bool],
 )
-    requires below { Below side.now (length ranks.now) }
+    requires below { Below side.now (length family.now.flags.now) }
     requires side_len_bound { (length side.now ≤ 256) × (length side.now ≤ length stays.old) }
-    ensures { stays.new ≡ written (under_cap ranks.now max_reads side.now) stays.old }
+    ensures { stays.new ≡ written (under_cap family.now max_reads side.now) stays.old }
 {
-    let n = side.len();
-    let mut own_ranks = [0i32; 256];
-    gather_ranks(ranks, side, &mut own_ranks);
-    select_lowest_ranking(&own_ranks[..n], max_reads, stays);
+    let mut ranks = [0; 256];
+    gather(side, &mut ranks, |r| family.ranks[r]);
+    select_lowest_ranking(&ranks[..side.len()], max_reads, stays);
 }
 
 // Gives a fate to each record of a side that does not stay and has none yet.
@@ -67,30 +61,9 @@ pub fn give_fate_to_dropped(side: &[usize], stays: &[bool], fate: u8, fates: &mu
     requires below { Below side.now (length fates.old) }
     ensures { fates.new ≡ given_fate fate (dropped side.now stays.now) fates.old }
 {
-    let mut k = 0;
-    while k < side.len() {
+    for (k, &record) in side.iter().enumerate() {
         if !stays[k] {
-            let record = side[k];
             fates[record] = first_fate(fate, fates[record]);
         }
-        k += 1;
     }
-}
-
-// Moves the records that stay to the front, in given order, and answers how many they are. A column may be longer than the side.
-pub fn keep_staying(side: &mut [usize], stays: &[bool]) -> usize
-    requires { length stays.now ≤ length side.old }
-    ensures value { result ≡ length (kept side.old stays.now) }
-    ensures side_after { side.new ≡ written (kept side.old stays.now) side.old }
-{
-    let mut count = 0;
-    let mut k = 0;
-    while k < stays.len() {
-        if stays[k] {
-            side[count] = side[k];
-            count += 1;
-        }
-        k += 1;
-    }
-    count
 }

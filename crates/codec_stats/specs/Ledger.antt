@@ -1,15 +1,16 @@
 -- Document 01, 'The answers': the ledger, its figures, and refusals 10 and 11.
-use Rattle.std.specs.Prelude.{Bool, false, cond, not, ◌||◌, List, [], ◌∷◌, ◌++◌, ◌≡◌, ℕ, ◌+◌, ◌-◌, ◌*◌, ◌/◌, ◌^◌, ◌<◌, ◌≤◌, eqb, leb, ltb, Float, pos, get_or, replicate}
+use Rattle.std.specs.Prelude.{Result, Ok, Err, Bool, false, cond, not, ◌||◌, List, [], ◌∷◌, ◌++◌, ◌≡◌, ℕ, ◌+◌, ◌-◌, ◌*◌, ◌/◌, ◌^◌, ◌<◌, ◌≤◌, eqb, leb, ltb, Float, pos, get_or, replicate}
 use Rattle.std.specs.Float.{binary64}
 use Rattle.std.specs.Float.Ieee.{div, of_bits, of_int}
-use Rattle.lists.specs.Every.{every}
+use Rattle.std.specs.List.{list_all}
 use Rattle.lists.specs.Tabulate.{tabulate}
 use Rattle.lists.specs.Total.{total}
 use Rattle.caller.specs.Refusals.{or_else, refused_if}
 use Rattle.caller.specs.declared.refusal.Refusal.{Refusal}
 use Rattle.codec_stats.specs.declared.ledger.Ledger.{Ledger}
 use Rattle.codec_stats.specs.declared.rates.LedgerRates.{LedgerRates}
-use Rattle.codec_stats.specs.declared.rates.LedgerRates.TheVariants.{Rates, Refused}
+use Rattle.codec_stats.specs.declared.refusals.LedgerRefusal.{LedgerRefusal}
+use Rattle.codec_stats.specs.declared.refusals.LedgerRefusal.TheVariants.{TooLarge, Full}
 
 -- the ledger's 20 counts, which a history keeps too
 abbrev pub Counts : Type 0
@@ -78,11 +79,20 @@ within_limit n = leb n (2 ^ 41)
 
 -- 10: 'families above 2^28 or a counter above 2^41'
 unfoldable pub too_large : Counts → Bool
-too_large l = ltb (2 ^ 28) l.families || not (every within_limit (other_counts l))
+too_large l = ltb (2 ^ 28) l.families || not (list_all within_limit (other_counts l))
 
 -- 11: 'families at 2^28'
 unfoldable pub full : Counts → Bool
 full l = eqb l.families (2 ^ 28)
+
+-- the refusals' numbers
+abbrev pub refusal_number : LedgerRefusal → ℕ
+refusal_number TooLarge = 10
+refusal_number Full = 11
+
+-- 10 goes before 11
+abbrev pub checked : Counts → Result (Unit {0}) LedgerRefusal
+checked l = cond (too_large l) (Err TooLarge) (cond (full l) (Err Full) (Ok tt))
 
 -- 10, then 11, read on the counts given; with each goes 0
 unfoldable pub of_counts : Counts → Refusal
@@ -121,5 +131,5 @@ pub record Addable (l more : Counts) : Type 0 where
   pub disagreements : more.disagreements ≤ 2 ^ 20
 
 -- the rates alone: filtered and both rates, or 10; 'the ledger's rates 10'
-unfoldable pub rates_of : Ledger → LedgerRates
-rates_of l = cond (too_large l) (Refused 10 0) (Rates (filtered l) (rate l) (millionths l))
+unfoldable pub rates_of : Ledger → Result LedgerRates LedgerRefusal
+rates_of l = cond (too_large l) (Err TooLarge) (Ok (record { filtered = filtered l; rate = rate l; millionths = millionths l }))

@@ -1,13 +1,15 @@
 -- Document 01, 'the ledger's rates': the answer as numbers.
+use Rattle.std.specs.Prelude.{Result, Ok, Err}
 use Rattle.std.specs.Float.{binary64}
 use Rattle.std.specs.Float.Ieee.{of_bits}
+use Rattle.codec_stats.specs.Ledger.{refusal_number}
 use Rattle.codec_stats.specs.declared.rates.LedgerRates.{LedgerRates}
-use Rattle.codec_stats.specs.declared.rates.LedgerRates.TheVariants.{Rates, Refused}
+use Rattle.codec_stats.specs.declared.refusals.LedgerRefusal.{LedgerRefusal}
 use Rattle.codec_stats.specs.declared.report.RatesAnswer.{RatesAnswer}
 
--- kind 0: filtered, the rate and the rate in millionths; 1: a refusal's number and what goes with it
-abbrev pub reported_rates : LedgerRates → RatesAnswer
-reported_rates (Rates filtered rate millionths) =
-    record { kind = 0; number = 0; with = 0; filtered = filtered; rate = rate; millionths = millionths }
-reported_rates (Refused number given) =
-    record { kind = 1; number = number; with = given; filtered = 0; rate = of_bits binary64 0; millionths = 0 }
+-- kind 0: filtered, the rate and the rate in millionths; 1: a refusal's number, with which 0 goes
+abbrev pub reported_rates : Result LedgerRates LedgerRefusal → RatesAnswer
+reported_rates (Ok found) =
+    record { kind = 0; number = 0; with = 0; filtered = found.filtered; rate = found.rate; millionths = found.millionths }
+reported_rates (Err refusal) =
+    record { kind = 1; number = refusal_number refusal; with = 0; filtered = 0; rate = of_bits binary64 0; millionths = 0 }

@@ -1,42 +1,24 @@
 // What is read off a ledger: the filtered records and the rate of disagreement.
-ghost use Rattle.std.specs.Prelude.{false, ◌≡◌, ℕ, ◌+◌, ◌*◌, ◌≤◌, ◌<◌, ◌^◌, get_or};
-ghost use Rattle.lists.specs.Total.{total};
+ghost use Rattle.std.specs.Prelude.{false, ◌≡◌, ◌+◌, ◌*◌, ◌<◌, ◌^◌};
 ghost use Rattle.codec_stats.specs.Ledger as defs;
 
 use crate::ledger::Ledger;
-use crate::refusals::is_too_large;
+use crate::refusals::{LedgerRefusal, is_too_large};
 
-// The three figures, or a refusal's number and what goes with it.
-#[derive(Drop)]
-pub enum LedgerRates {
-    Rates {
-        filtered: u64,
-        rate: f64,
-        millionths: u64,
-    },
-    Refused(u32, usize),
+#[derive(Clone, Copy, Debug, PartialEq)]
+pub struct LedgerRates {
+    pub filtered: u64,
+    pub rate: f64,
+    pub millionths: u64,
 }
 
 // Ten numbers of at most 2^41, so the sum has at most 45 bits.
-fn sum(reasons: [u64; 10]) -> u64
-    requires { (i : ℕ) → get_or reasons i 0 ≤ 2 ^ 41 }
-    ensures { result ≡ total (λ n. n) reasons }
-{
-    let mut sum = 0;
-    let mut i = 0;
-    while i < 10 {
-        sum += reasons[i];
-        i += 1;
-    }
-    sum
-}
-
+#[tactic(auto, using(crate::proofs::Small::reasons_fit, crate::proofs::Small::filtered_is_sum))]
 pub fn filtered(ledger: Ledger) -> u64
     requires { defs.too_large ledger ≡ false }
     ensures { result ≡ defs.filtered ledger }
 {
-    let reasons = ledger.reasons;
-    sum(reasons)
+    ledger.reasons.iter().sum()
 }
 
 pub fn duplex_disagreement_rate(ledger: Ledger) -> f64
@@ -52,7 +34,8 @@ pub fn duplex_disagreement_rate(ledger: Ledger) -> f64
 // A remainder of a division by at most 2^41, with a digit 0 after it: the only product, and it has at most 45 bits.
 fn tenfold(rest: u64) -> u64
     requires { rest < 2 ^ 41 }
-    ensures { (result ≡ rest * 10) × (result < 2 ^ 45) }
+    ensures value { result ≡ rest * 10 }
+    ensures upper_bound { result < 2 ^ 45 }
 {
     rest * 10
 }
@@ -64,6 +47,9 @@ fn with_digit(number: u64, digit: u64) -> u64
 {
     (number << 3) + (number << 1) + digit
 }
+
+// How many digits after the point make millionths.
+const DIGITS: usize = 6;
 
 // The same rate in whole numbers, rounded down: a long division with six digits after the point, for a board without a wide multiply.
 pub fn millionths(ledger: Ledger) -> u64
@@ -77,25 +63,24 @@ pub fn millionths(ledger: Ledger) -> u64
     }
     let mut quotient = disagreements / bases;
     let mut rest = disagreements % bases;
-    let mut digits: usize = 0;
-    while digits < 6 {
+    for _digit in 0..DIGITS {
         let product = tenfold(rest);
         quotient = with_digit(quotient, product / bases);
         rest = product % bases;
-        digits += 1;
     }
     quotient
 }
 
-pub fn rates(ledger: Ledger) -> LedgerRates
+#[tactic(auto, unfolding(crate::specs::Ledger::rates_of))]
+pub fn rates(ledger: Ledger) -> Result<LedgerRates, LedgerRefusal>
     ensures { result ≡ defs.rates_of ledger }
 {
     if is_too_large(ledger) {
-        return LedgerRates::Refused(10, 0);
+        return Err(LedgerRefusal::TooLarge);
     }
-    LedgerRates::Rates {
+    Ok(LedgerRates {
         filtered: filtered(ledger),
         rate: duplex_disagreement_rate(ledger),
         millionths: millionths(ledger),
-    }
+    })
 }

@@ -1,62 +1,75 @@
 // Refusals 10 and 11, read on a ledger's counts.
 ghost use Rattle.std.specs.Prelude.{◌≡◌};
-ghost use Rattle.lists.specs.Every.{every};
-ghost use Rattle.codec_stats.specs.Ledger.{within_limit, other_counts, too_large, full, of_counts};
+ghost use Rattle.std.specs.List.{list_all};
+ghost use Rattle.codec_stats.specs.Ledger.{within_limit, too_large, full, refusal_number, checked, of_counts};
 
-use crate::ledger::Ledger;
-use caller::refusal::{Refusal, or_else, refused_if};
+use crate::ledger::{COUNTS, Ledger};
+use caller::refusal::Refusal;
 
-const FAMILIES_LIMIT: u64 = 1 << 28;
+// The largest number of families, and of any other count.
+pub const FAMILIES_LIMIT: u64 = 1 << 28;
 
-const COUNTER_LIMIT: u64 = 1 << 41;
+pub const COUNTER_LIMIT: u64 = 1 << 41;
 
-fn reasons_within(reasons: [u64; 10]) -> bool
-    ensures { result ≡ every within_limit reasons }
-{
-    let mut i = 0;
-    while i < 10 {
-        if COUNTER_LIMIT < reasons[i] {
-            return false;
+// Why a ledger is not accepted.
+#[derive(Clone, Copy, Debug, PartialEq, Eq, Hash)]
+pub enum LedgerRefusal {
+    // A count is above its limit.
+    TooLarge,
+    // No further family can be counted.
+    Full,
+}
+
+impl LedgerRefusal {
+    pub fn number(self) -> u32
+        ensures { result ≡ refusal_number self }
+    {
+        match self {
+            LedgerRefusal::TooLarge => 10,
+            LedgerRefusal::Full => 11,
         }
-        i += 1;
     }
-    true
 }
 
-// Every count but the families.
-fn counters_within(ledger: Ledger) -> bool
-    ensures { result ≡ every within_limit (other_counts ledger) }
+fn are_within(counts: &[u64]) -> bool
+    ensures { result ≡ list_all within_limit counts.now }
 {
-    let reasons = ledger.reasons;
-    (ledger.records <= COUNTER_LIMIT)
-        & reasons_within(reasons)
-        & (ledger.passed_over <= COUNTER_LIMIT)
-        & (ledger.no_strand <= COUNTER_LIMIT)
-        & (ledger.used <= COUNTER_LIMIT)
-        & (ledger.disagreement_rejected <= COUNTER_LIMIT)
-        & (ledger.duplexes <= COUNTER_LIMIT)
-        & (ledger.bases <= COUNTER_LIMIT)
-        & (ledger.duplex_bases <= COUNTER_LIMIT)
-        & (ledger.disagreements <= COUNTER_LIMIT)
+    counts.iter().all(|&count| count <= COUNTER_LIMIT)
 }
 
+// The families have a limit of their own.
 pub fn is_too_large(ledger: Ledger) -> bool
     ensures { result ≡ too_large ledger }
 {
-    (FAMILIES_LIMIT < ledger.families) | !counters_within(ledger)
+    let counts = <[u64; COUNTS]>::from(ledger);
+    (FAMILIES_LIMIT < ledger.families) | !are_within(&counts[1..])
 }
 
-// No further family can be counted.
+#[tactic(auto, unfolding(crate::specs::Ledger::full))]
 pub fn is_full(ledger: Ledger) -> bool
     ensures { result ≡ full ledger }
 {
     ledger.families == FAMILIES_LIMIT
 }
 
+// Refusal 10 goes before 11.
+pub fn check(ledger: Ledger) -> Result<(), LedgerRefusal>
+    ensures { result ≡ checked ledger }
+{
+    if is_too_large(ledger) {
+        return Err(LedgerRefusal::TooLarge);
+    }
+    if is_full(ledger) {
+        return Err(LedgerRefusal::Full);
+    }
+    Ok(())
+}
+
 pub fn ledger_refusal(ledger: Ledger) -> Refusal
     ensures { result ≡ of_counts ledger }
 {
-    let too_large = refused_if(is_too_large(ledger), 10, 0);
-    let full = refused_if(is_full(ledger), 11, 0);
-    or_else(too_large, full)
+    match check(ledger) {
+        Ok(()) => Refusal::NoRefusal,
+        Err(refusal) => Refusal::Refused(refusal.number(), 0),
+    }
 }

@@ -3,10 +3,11 @@ ghost use Rattle.std.specs.Prelude.{◌≡◌};
 ghost use Rattle.codec_stats.specs.Reported.{reported_rates};
 
 use crate::rates::LedgerRates;
+use crate::refusals::LedgerRefusal;
 
-// Kind 0 has the three figures, 1 a refusal's number and what goes with it.
+// A number, since no enum crosses the C interface: kind 0 has the three figures, 1 a refusal's number and what goes with it.
 #[repr(C)]
-#[derive(Drop)]
+#[derive(Clone, Copy, Debug, Default, PartialEq)]
 pub struct RatesAnswer {
     pub kind: u32,
     pub number: u32,
@@ -16,35 +17,27 @@ pub struct RatesAnswer {
     pub millionths: u64,
 }
 
-fn report_figures(filtered: u64, rate: f64, millionths: u64) -> RatesAnswer
-    ensures { result ≡ reported_rates (LedgerRates.Rates filtered rate millionths) }
-{
-    RatesAnswer {
-        kind: 0,
-        number: 0,
-        with: 0,
-        filtered,
-        rate,
-        millionths,
-    }
-}
+const RATES: u32 = 0;
 
-pub fn report_rates(answer: LedgerRates) -> RatesAnswer
-    ensures { result ≡ reported_rates answer }
-{
-    match answer {
-        LedgerRates::Rates {
-            filtered,
-            rate,
-            millionths,
-        } => report_figures(filtered, rate, millionths),
-        LedgerRates::Refused(number, with) => RatesAnswer {
-            kind: 1,
-            number,
-            with: with as u64,
-            filtered: 0,
-            rate: 0.0,
-            millionths: 0,
-        },
+const REFUSED: u32 = 1;
+
+impl From<Result<LedgerRates, LedgerRefusal>> for RatesAnswer {
+    ghost from_gives = { λ found answer. answer ≡ reported_rates found };
+
+    fn from(found: Result<LedgerRates, LedgerRefusal>) -> RatesAnswer {
+        match found {
+            Ok(rates) => RatesAnswer {
+                kind: RATES,
+                filtered: rates.filtered,
+                rate: rates.rate,
+                millionths: rates.millionths,
+                ..RatesAnswer::default()
+            },
+            Err(refusal) => RatesAnswer {
+                kind: REFUSED,
+                number: refusal.number(),
+                ..RatesAnswer::default()
+            },
+        }
     }
 }

@@ -7,9 +7,9 @@ use native.Mathlib.Omega.{arith}
 use lib.ListN.{length, get_or, set, take, drop, replicate, length-append, length-set, length-take, length-drop, length-map, length-reverse, length-replicate, replicate-append-replicate, drop_of_length-le, get_or-map}
 use lib.Seq.{take_at, take_all, length-take-le, drop_at}
 use borrow.Rule.Slice.PartMut.{mid_of, put_mid}
+use Rattle.std.proofs.lemmas.List.{get_or-reverse}
 use Rattle.lists.specs.Tabulate.{tabulate}
 use Rattle.lists.specs.Written.{written}
-use Rattle.lists.proofs.Reverse.{get_d_reverse}
 use Rattle.lists.proofs.Tabulate.{tabulate_put, tabulate-all}
 use Rattle.codec_strands.specs.Strands.{complement, turned, turned_bases, padded}
 
@@ -21,7 +21,7 @@ module _ {A : Type 0} where
   -- place by place
   pub turned_at : (reversed : Bool) (xs : List A) (i : ℕ) (d : A) → i < length xs
       → get_or (turned reversed xs) i d ≡ get_or xs (cond reversed (length xs - 1 - i) i) d
-  turned_at true xs i d h = get_d_reverse xs i d h
+  turned_at true xs i d h = get_or-reverse xs i d h
   turned_at false xs i d h = refl
 
   -- a column that is written place by place: the first i places of xs stand in it
@@ -103,7 +103,7 @@ pub bases_at : (reversed : Bool) (bases : List ℕ) (i : ℕ) → i < length bas
     → get_or (turned_bases reversed bases) i 0
     ≡ cond reversed (complement (get_or bases (cond reversed (length bases - 1 - i) i) 0)) (get_or bases (cond reversed (length bases - 1 - i) i) 0)
 bases_at true bases i h =
-    get_d_reverse (map complement bases) i 0 (rw (length-map bases complement) h)
+    get_or-reverse (map complement bases) i 0 (rw (length-map bases complement) h)
     ∙ rw (length-map bases complement) (get_or-map complement bases (length bases - 1 - i) 0)
 bases_at false bases i h = refl
 

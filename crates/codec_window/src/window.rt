@@ -1,278 +1,193 @@
 // The window that the longest records of the two sides share, whether they are in phase there, and the duplex's length.
-ghost use Rattle.std.specs.Prelude.{◌≡◌, ◌≤◌, ◌<◌, ◌^◌, min, max, pos, ◌-ℤ◌};
-ghost use Rattle.codec_window.specs.Window.{alignment, Admitted, span_of, true_window, legacy_window, window_of, window_length, below_minimum, or_zero, phase_position, phase, in_phase, consensus_length, length_in, dovetail_if, reason_without_length, overlap};
+ghost use Rattle.std.specs.Prelude.{◌≡◌, ◌≤◌, pos, IfSome};
+ghost use Rattle.codec_window.specs.Alignment.{Admitted, alignment_of};
 
 use caller::reason::RejectionReason;
 use raw_bam::cigar::reference_length_from_cigar;
-use raw_bam::read_pos::{ReadPos, read_pos_at_ref_pos_raw};
-
-// The longest record of a side, beside its operations.
-#[derive(Clone, Copy)]
-pub struct Aligned {
-    pub position: u64,
-    pub clipped_length: u64,
-}
+use raw_bam::read_pos::read_pos_at_ref_pos_raw;
 
 // What a side covers of the reference, or the window: both ends belong to it.
 #[derive(Clone, Copy)]
 pub struct Span {
-    pub start: u64,
-    pub end: u64,
+    pub start: u32,
+    pub end: u32,
 }
 
-#[derive(Drop)]
-pub enum ConsensusLength {
-    Bases(u64),
-    NoLength,
+// Where the two sides overlap, and the length of their duplex.
+#[derive(Clone, Copy)]
+pub struct Overlap {
+    pub window: Span,
+    pub length: u64,
 }
 
-// How steps 6 and 7 end.
-#[derive(Drop)]
-pub enum Overlap {
-    Kept { start: u64, end: u64, length: u64 },
-    Rejected(RejectionReason),
+// The longest record of a side: its operations, its position from 1 and its clipped length.
+#[derive(Clone, Copy)]
+pub struct Aligned<'a> {
+    pub ops: &'a [u32],
+    pub position: u64,
+    pub clipped_length: u64,
+    ghost admitted: { Admitted (alignment_of position clipped_length ops.now) },
 }
 
-fn larger(a: u64, b: u64) -> u64
-    ensures { result ≡ max a b }
-{
-    if a < b { b } else { a }
+// The longest records of the two sides, and whether R1's is the negative one.
+#[derive(Clone, Copy)]
+pub struct Pair<'a> {
+    pub r1: Aligned<'a>,
+    pub r2: Aligned<'a>,
+    pub r1_is_negative: bool,
 }
 
-fn smaller(a: u64, b: u64) -> u64
-    ensures { result ≡ min a b }
-{
-    if a < b { a } else { b }
-}
+impl Span {
+    ghost use Rattle.codec_window.specs.Window.{window_length, below_minimum, true_window, legacy_window};
 
-fn span_of(ops: &[u32], aligned: Aligned) -> Span
-    requires { Admitted (alignment aligned ops.now) }
-    ensures { result ≡ span_of (alignment aligned ops.now) }
-{
-    let start = aligned.position;
-    let bases = larger(1, reference_length_from_cigar(ops));
-    Span {
-        start,
-        end: start + bases - 1,
+    // May be below zero.
+    fn length(self) -> i64
+        ensures { result ≡ window_length self }
+    {
+        i64::from(self.end) - i64::from(self.start) + 1
     }
-}
 
-fn true_window(a: Span, b: Span) -> Span
-    ensures { result ≡ true_window a b }
-{
-    Span {
-        start: larger(a.start, b.start),
-        end: smaller(a.end, b.end),
+    fn is_below(self, minimum: u64) -> bool
+        ensures { result ≡ below_minimum self minimum }
+    {
+        i128::from(self.length()) < i128::from(minimum)
     }
-}
 
-fn legacy_window(positive: Span, negative: Span) -> Span
-    ensures { result ≡ legacy_window positive negative }
-{
-    Span {
-        start: negative.start,
-        end: positive.end,
-    }
-}
-
-fn window_of(r1: Span, r2: Span, r1_is_negative: bool, legacy: bool) -> Span
-    ensures { result ≡ window_of r1 r2 r1_is_negative legacy }
-{
-    if legacy {
-        if r1_is_negative {
-            legacy_window(r2, r1)
-        } else {
-            legacy_window(r1, r2)
+    fn true_window(self, other: Span) -> Span
+        ensures { result ≡ true_window self other }
+    {
+        Span {
+            start: self.start.max(other.start),
+            end: self.end.min(other.end),
         }
-    } else {
-        true_window(r1, r2)
     }
-}
 
-fn difference(a: u64, b: u64) -> i64
-    requires { (a < 2 ^ 32) × (b < 2 ^ 32) }
-    ensures { result ≡ pos a -ℤ pos b }
-{
-    a as i64 - b as i64
-}
-
-fn window_length(window: Span) -> i64
-    requires { (window.start < 2 ^ 32) × (window.end < 2 ^ 32) }
-    ensures { result ≡ window_length window }
-{
-    difference(window.end, window.start) + 1
-}
-
-fn is_below_minimum(window: Span, minimum: u64) -> bool
-    requires { (window.start < 2 ^ 32) × (window.end < 2 ^ 32) × (minimum < 2 ^ 32) }
-    ensures { result ≡ below_minimum window minimum }
-{
-    window_length(window) < minimum as i64
-}
-
-fn or_zero(position: ReadPos) -> u64
-    ensures { result ≡ or_zero position }
-{
-    match position {
-        ReadPos::Base(p) => p,
-        ReadPos::NoBase => 0,
-    }
-}
-
-// A read position for the phase: htsjdk's 0 where the read has none.
-fn phase_position(ops: &[u32], aligned: Aligned, position: u64) -> u64
-    requires { Admitted (alignment aligned ops.now) }
-    ensures { (result ≡ phase_position (alignment aligned ops.now) position) × (result ≤ 1024) }
-{
-    or_zero(read_pos_at_ref_pos_raw(ops, aligned.position, position, true))
-}
-
-fn phase_at(r1_ops: &[u32], r1: Aligned, r2_ops: &[u32], r2: Aligned, position: u64) -> i64
-    requires admitted { Admitted (alignment r1 r1_ops.now) }
-    requires admitted_2 { Admitted (alignment r2 r2_ops.now) }
-    ensures { result ≡ phase (alignment r1 r1_ops.now) (alignment r2 r2_ops.now) position }
-{
-    difference(
-        phase_position(r1_ops, r1, position),
-        phase_position(r2_ops, r2, position),
-    )
-}
-
-// Out of phase, one read has an insertion or a deletion in the window that the other has not.
-fn check_overlap_phase_raw(
-    r1_ops: &[u32],
-    r1: Aligned,
-    r2_ops: &[u32],
-    r2: Aligned,
-    window: Span,
-) -> bool
-    requires admitted { Admitted (alignment r1 r1_ops.now) }
-    requires admitted_2 { Admitted (alignment r2 r2_ops.now) }
-    ensures { result ≡ in_phase (alignment r1 r1_ops.now) (alignment r2 r2_ops.now) window }
-{
-    let at_start = phase_at(r1_ops, r1, r2_ops, r2, window.start);
-    let at_end = phase_at(r1_ops, r1, r2_ops, r2, window.end);
-    at_start == at_end
-}
-
-// The duplex runs from the positive read's first base to the negative read's last, joined at the window's end.
-fn compute_consensus_length_raw(
-    pos_ops: &[u32],
-    positive: Aligned,
-    neg_ops: &[u32],
-    negative: Aligned,
-    overlap_end: u64,
-) -> ConsensusLength
-    requires admitted { Admitted (alignment positive pos_ops.now) }
-    requires admitted_2 { Admitted (alignment negative neg_ops.now) }
-    ensures { result ≡ consensus_length (alignment positive pos_ops.now) (alignment negative neg_ops.now) overlap_end }
-{
-    let clipped = negative.clipped_length;
-    let at_positive = read_pos_at_ref_pos_raw(pos_ops, positive.position, overlap_end, false);
-    let at_negative = read_pos_at_ref_pos_raw(neg_ops, negative.position, overlap_end, false);
-    let ReadPos::Base(p) = at_positive else {
-        return ConsensusLength::NoLength;
-    };
-    let ReadPos::Base(n) = at_negative else {
-        return ConsensusLength::NoLength;
-    };
-    ConsensusLength::Bases(p + clipped - n)
-}
-
-// R1's strand says which read is the positive one.
-fn length_in(
-    r1_ops: &[u32],
-    r1: Aligned,
-    r2_ops: &[u32],
-    r2: Aligned,
-    r1_is_negative: bool,
-    window: Span,
-) -> ConsensusLength
-    requires admitted { Admitted (alignment r1 r1_ops.now) }
-    requires admitted_2 { Admitted (alignment r2 r2_ops.now) }
-    ensures { result ≡ length_in (alignment r1 r1_ops.now) (alignment r2 r2_ops.now) r1_is_negative window }
-{
-    if check_overlap_phase_raw(r1_ops, r1, r2_ops, r2, window) {
-        if r1_is_negative {
-            compute_consensus_length_raw(r2_ops, r2, r1_ops, r1, window.end)
-        } else {
-            compute_consensus_length_raw(r1_ops, r1, r2_ops, r2, window.end)
+    // Of the positive side and the negative one.
+    fn legacy_window(self, negative: Span) -> Span
+        ensures { result ≡ legacy_window self negative }
+    {
+        Span {
+            start: negative.start,
+            end: self.end,
         }
-    } else {
-        ConsensusLength::NoLength
     }
 }
 
-fn dovetail_if(length: ConsensusLength) -> RejectionReason
-    ensures { result ≡ dovetail_if length }
-{
-    match length {
-        ConsensusLength::Bases(_) => RejectionReason::Dovetail,
-        ConsensusLength::NoLength => RejectionReason::IndelErrorBetweenStrands,
+impl Aligned<'_> {
+    ghost use Rattle.raw_bam.specs.ReadPosition.{read_position};
+    ghost use Rattle.codec_window.specs.Window.{alignment, span_of, phase_position, consensus_length};
+
+    #[tactic(auto, unfolding(crate::specs::Window::span_of))]
+    fn span(&self) -> Span
+        ensures { result ≡ span_of (alignment self.now) }
+    {
+        let bases = reference_length_from_cigar(self.ops).max(1);
+        Span {
+            start: self.position as u32,
+            end: (self.position + bases - 1) as u32,
+        }
+    }
+
+    fn read_position(&self, position: u64, ask_last: bool) -> Option<u64>
+        ensures value { result ≡ read_position ask_last self.now.ops.now self.now.position position }
+        ensures within { IfSome result (λ p. (1 ≤ p) × (p ≤ self.now.clipped_length)) }
+    {
+        read_pos_at_ref_pos_raw(self.ops, self.position, position, ask_last)
+    }
+
+    // A read position for the phase: htsjdk's 0 where the read has none.
+    fn phase_position(&self, position: u64) -> u64
+        ensures value { result ≡ phase_position (alignment self.now) position }
+        ensures within { result ≤ 1024 }
+    {
+        self.read_position(position, true).unwrap_or(0)
+    }
+
+    // The duplex runs from the positive read's first base to the negative read's last, joined at the window's end.
+    #[tactic(auto, unfolding(crate::specs::Window::consensus_length))]
+    fn compute_consensus_length_raw(&self, negative: &Aligned, overlap_end: u64) -> Option<u64>
+        ensures { result ≡ consensus_length (alignment self.now) (alignment negative.now) overlap_end }
+    {
+        let p = self.read_position(overlap_end, false)?;
+        let n = negative.read_position(overlap_end, false)?;
+        Some(p + negative.clipped_length - n)
     }
 }
 
-// In legacy, a pair that the true window would have kept is rejected only because it dovetails.
-#[tactic(auto, unfolding(crate::specs::Window::reason_without_length))]
-fn reason_without_length(
-    r1_ops: &[u32],
-    r1: Aligned,
-    r2_ops: &[u32],
-    r2: Aligned,
-    r1_is_negative: bool,
-    legacy: bool,
-    minimum: u64,
-    shared: Span,
-) -> RejectionReason
-    requires admitted { Admitted (alignment r1 r1_ops.now) }
-    requires admitted_2 { Admitted (alignment r2 r2_ops.now) }
-    requires start_bound { (shared.start < 2 ^ 32) × (shared.end < 2 ^ 32) × (minimum < 2 ^ 32) }
-    ensures { result ≡ reason_without_length (alignment r1 r1_ops.now) (alignment r2 r2_ops.now) r1_is_negative legacy minimum shared }
-{
-    if !legacy {
-        return RejectionReason::IndelErrorBetweenStrands;
-    }
-    if is_below_minimum(shared, minimum) {
-        return RejectionReason::IndelErrorBetweenStrands;
-    }
-    dovetail_if(length_in(r1_ops, r1, r2_ops, r2, r1_is_negative, shared))
-}
+impl Pair<'_> {
+    ghost use Rattle.codec_window.specs.Window.{alignment, window_of, span_of, phase, in_phase, length_in, reason_without_length, overlap};
 
-// Steps 6 and 7, of the longest of R1 and the longest of R2.
-pub fn overlap_of(
-    r1_ops: &[u32],
-    r1: Aligned,
-    r2_ops: &[u32],
-    r2: Aligned,
-    r1_is_negative: bool,
-    legacy: bool,
-    minimum: u64,
-) -> Overlap
-    requires admitted { Admitted (alignment r1 r1_ops.now) }
-    requires admitted_2 { Admitted (alignment r2 r2_ops.now) }
-    requires minimum_bound { minimum < 2 ^ 31 }
-    ensures { result ≡ overlap (alignment r1 r1_ops.now) (alignment r2 r2_ops.now) r1_is_negative legacy minimum }
-{
-    let r1_span = span_of(r1_ops, r1);
-    let r2_span = span_of(r2_ops, r2);
-    let shared = true_window(r1_span, r2_span);
-    let window = window_of(r1_span, r2_span, r1_is_negative, legacy);
-    if is_below_minimum(window, minimum) {
-        return Overlap::Rejected(RejectionReason::InsufficientOverlap);
+    #[tactic(auto, unfolding(crate::specs::Window::phase))]
+    fn phase_at(&self, position: u64) -> i64
+        ensures { result ≡ phase (alignment self.now.r1) (alignment self.now.r2) position }
+    {
+        self.r1.phase_position(position) as i64 - self.r2.phase_position(position) as i64
     }
-    let start = window.start;
-    let end = window.end;
-    match length_in(r1_ops, r1, r2_ops, r2, r1_is_negative, window) {
-        ConsensusLength::Bases(length) => Overlap::Kept { start, end, length },
-        ConsensusLength::NoLength => Overlap::Rejected(reason_without_length(
-            r1_ops,
-            r1,
-            r2_ops,
-            r2,
-            r1_is_negative,
-            legacy,
-            minimum,
-            shared,
-        )),
+
+    // Out of phase, one read has an insertion or a deletion in the window that the other has not.
+    #[tactic(auto, unfolding(crate::specs::Window::in_phase))]
+    fn check_overlap_phase_raw(&self, window: Span) -> bool
+        ensures { result ≡ in_phase (alignment self.now.r1) (alignment self.now.r2) window }
+    {
+        self.phase_at(u64::from(window.start)) == self.phase_at(u64::from(window.end))
+    }
+
+    // R1's strand says which read is the positive one.
+    #[tactic(auto, unfolding(crate::specs::Window::length_in))]
+    fn length_in(&self, window: Span) -> Option<u64>
+        ensures { result ≡ length_in (alignment self.now.r1) (alignment self.now.r2) self.now.r1_is_negative window }
+    {
+        if !self.check_overlap_phase_raw(window) {
+            return None;
+        }
+        if self.r1_is_negative {
+            self.r2
+                .compute_consensus_length_raw(&self.r1, u64::from(window.end))
+        } else {
+            self.r1
+                .compute_consensus_length_raw(&self.r2, u64::from(window.end))
+        }
+    }
+
+    // The window that is asked for.
+    fn window(&self, r1: Span, r2: Span, legacy: bool) -> Span
+        ensures { result ≡ window_of r1 r2 self.now.r1_is_negative legacy }
+    {
+        if !legacy {
+            r1.true_window(r2)
+        } else if self.r1_is_negative {
+            r2.legacy_window(r1)
+        } else {
+            r1.legacy_window(r2)
+        }
+    }
+
+    // In legacy, a pair that the true window would have kept is rejected only because it dovetails.
+    #[tactic(auto, unfolding(crate::specs::Window::reason_without_length))]
+    fn reason_without_length(&self, legacy: bool, minimum: u64, shared: Span) -> RejectionReason
+        ensures { result ≡ reason_without_length (alignment self.now.r1) (alignment self.now.r2) self.now.r1_is_negative legacy minimum shared }
+    {
+        if legacy && !shared.is_below(minimum) && self.length_in(shared).is_some() {
+            RejectionReason::Dovetail
+        } else {
+            RejectionReason::IndelErrorBetweenStrands
+        }
+    }
+
+    // Steps 6 and 7.
+    #[tactic(auto, unfolding(crate::specs::Window::overlap, crate::specs::Window::overlap_in))]
+    pub fn overlap(&self, legacy: bool, minimum: u64) -> Result<Overlap, RejectionReason>
+        ensures { result ≡ overlap (alignment self.now.r1) (alignment self.now.r2) self.now.r1_is_negative legacy minimum }
+    {
+        let r1 = self.r1.span();
+        let r2 = self.r2.span();
+        let window = self.window(r1, r2, legacy);
+        if window.is_below(minimum) {
+            return Err(RejectionReason::InsufficientOverlap);
+        }
+        let Some(length) = self.length_in(window) else {
+            return Err(self.reason_without_length(legacy, minimum, r1.true_window(r2)));
+        };
+        Ok(Overlap { window, length })
     }
 }

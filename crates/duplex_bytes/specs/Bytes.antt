@@ -1,6 +1,6 @@
 -- Document 01, the combining step through numbers and byte slices: depths and errors are byte pairs, low byte first.
 use Rattle.std.specs.Prelude.{cond, List, [], ◌∷◌, ◌++◌, ◌≡◌, ℕ, Float, length}
-use Rattle.lists.specs.Every.{every}
+use Rattle.std.specs.List.{list_all}
 use Rattle.lists.specs.Written.{written}
 use Rattle.codec_duplex.specs.Columns.{Strand, strand, combined_column}
 use Rattle.codec_duplex.specs.Combining.{outcome, left}
@@ -28,7 +28,7 @@ duplex_pair_lengths d = length d.depths ∷ length d.errors ∷ []
 -- an odd length there is refusal 12; otherwise as combining alone
 unfoldable pub byte_outcome : (a b : Strand) (results : Duplex) (count : ℕ) (rate : Float) → Judgement
 byte_outcome a b results count rate =
-    cond (every even (pair_lengths a ++ pair_lengths b ++ duplex_pair_lengths results))
+    cond (list_all even (pair_lengths a ++ pair_lengths b ++ duplex_pair_lengths results))
     (outcome (read a) (read b) (duplex_lengths (read_duplex results)) count rate)
     (refused 12 0)
 

@@ -1,6 +1,6 @@
 // The columns of a duplex, with depths and errors as byte pairs.
 ghost use Rattle.std.specs.Prelude.{[], ◌∷◌, ◌≡◌, ◌+◌, ◌*◌, ◌<◌, length};
-ghost use Rattle.lists.specs.Every.{every};
+ghost use Rattle.std.specs.List.{list_all};
 ghost use Rattle.codec_duplex.specs.Columns.{strand, position_at, Fitting};
 ghost use Rattle.codec_duplex.specs.Duplex.{duplex};
 ghost use Rattle.duplex_bytes.specs.Bytes.{read, read_duplex, FilledBytes};
@@ -12,7 +12,7 @@ use codec_duplex::position::{Position, combine};
 
 // No column of byte pairs has an odd length.
 pub fn even_lengths(a: usize, b: usize, c: usize, d: usize, e: usize, f: usize) -> bool
-    ensures { result ≡ every even (a ∷ b ∷ c ∷ d ∷ e ∷ f ∷ []) }
+    ensures { result ≡ list_all even (a ∷ b ∷ c ∷ d ∷ e ∷ f ∷ []) }
 {
     (a % 2 == 0) & (b % 2 == 0) & (c % 2 == 0) & (d % 2 == 0) & (e % 2 == 0) & (f % 2 == 0)
 }

@@ -13,11 +13,10 @@ const INPUT_BYTES: usize = 73753;
 
 fn main(rt: HostRuntime) -> io::Result<()> {
     let mut input = Vec::new(rt.alloc());
-    let got = rt
-        .reader()
+    rt.reader()
         .take(INPUT_BYTES as u64)
         .read_to_end(&mut input)?;
     let mut output = [0u8; duplex::OUTPUT_BYTES];
-    let size = duplex::duplex_table(&input[..got], &mut output);
+    let size = duplex::duplex_table(&input, &mut output);
     rt.write_all(&output[..size])
 }

@@ -7,8 +7,8 @@ use native.Mathlib.Omega.{arith}
 use borrow.Author.Tests.{eqb-true, eq-eqb, ltb-false, le-ltb, not-false}
 use lib.Dec.{eqb, ltb}
 use lib.ListN.{length}
-use Rattle.lists.specs.Every.{every}
-use Rattle.lists.proofs.Cases.{or_neither}
+use Rattle.std.specs.List.{list_all}
+use Rattle.std.proofs.lemmas.Bool.{or_parts}
 use Rattle.caller.specs.declared.refusal.Refusal.TheVariants.{NoRefusal}
 use Rattle.caller.specs.Refusals.{refused_if, or_else}
 use Rattle.raw_bam.specs.Cigar.{is_operation, read_length, reference_length}
@@ -24,7 +24,7 @@ unrefused false false false e = (refl, refl, refl)
 
 -- the way there: limits as listed, bases as many as consumed
 pub record AcceptedThere (words read reference : List ℕ) (room : ℕ) : Type 0 where
-  pub operations : every is_plain words ≡ true
+  pub operations : list_all is_plain words ≡ true
   pub few : length words ≤ 64
   pub short : read_length words ≤ 1024
   pub bases : length read ≡ read_length words
@@ -34,12 +34,12 @@ pub record AcceptedThere (words read reference : List ℕ) (room : ℕ) : Type 0
 pub accepted_there : (words read reference : List ℕ) (room : ℕ) → refusal_there words read reference room ≡ NoRefusal → AcceptedThere words read reference room
 unfolding refusal_there bad_plain_words past_plain_limits
 accepted_there words read reference room e =
-    let tests = unrefused (not (every is_plain words)) (past_plain_limits words (length read) (length reference)) (small_output room) e in
-    let last = or_neither (ltb 64 (length words) || ltb 1024 (read_length words) || not (eqb (length read) (read_length words))) (not (eqb (length reference) (reference_length words))) tests.1 in
-    let third = or_neither (ltb 64 (length words) || ltb 1024 (read_length words)) (not (eqb (length read) (read_length words))) last.0 in
-    let first = or_neither (ltb 64 (length words)) (ltb 1024 (read_length words)) third.0 in
+    let tests = unrefused (not (list_all is_plain words)) (past_plain_limits words (length read) (length reference)) (small_output room) e in
+    let last = or_parts (ltb 64 (length words) || ltb 1024 (read_length words) || not (eqb (length read) (read_length words))) (not (eqb (length reference) (reference_length words))) tests.1 in
+    let third = or_parts (ltb 64 (length words) || ltb 1024 (read_length words)) (not (eqb (length read) (read_length words))) last.0 in
+    let first = or_parts (ltb 64 (length words)) (ltb 1024 (read_length words)) third.0 in
     record {
-      operations = not-false (every is_plain words) tests.0;
+      operations = not-false (list_all is_plain words) tests.0;
       few = ltb-false 64 (length words) first.0;
       short = ltb-false 1024 (read_length words) first.1;
       bases = eqb-true (length read) (read_length words) (not-false (eqb (length read) (read_length words)) third.1);
@@ -61,7 +61,7 @@ there_accepts words read reference room a =
 
 -- the way back
 pub record AcceptedBack (words : List ℕ) (room : ℕ) : Type 0 where
-  pub operations : every is_operation words ≡ true
+  pub operations : list_all is_operation words ≡ true
   pub few : length words ≤ 1088
   pub short : read_length words ≤ 1024
   pub output : 2048 ≤ room
@@ -69,10 +69,10 @@ pub record AcceptedBack (words : List ℕ) (room : ℕ) : Type 0 where
 pub accepted_back : (words : List ℕ) (room : ℕ) → refusal_back words room ≡ NoRefusal → AcceptedBack words room
 unfolding refusal_back bad_extended_words past_extended_limits
 accepted_back words room e =
-    let tests = unrefused (not (every is_operation words)) (past_extended_limits words) (small_output room) e in
-    let limits = or_neither (ltb 1088 (length words)) (ltb 1024 (read_length words)) tests.1 in
+    let tests = unrefused (not (list_all is_operation words)) (past_extended_limits words) (small_output room) e in
+    let limits = or_parts (ltb 1088 (length words)) (ltb 1024 (read_length words)) tests.1 in
     record {
-      operations = not-false (every is_operation words) tests.0;
+      operations = not-false (list_all is_operation words) tests.0;
       few = ltb-false 1088 (length words) limits.0;
       short = ltb-false 1024 (read_length words) limits.1;
       output = ltb-false room 2048 tests.2;

@@ -7,11 +7,11 @@ use native.Mathlib.Omega.{arith}
 use borrow.Author.Tests.{ltb-true, lt-ltb}
 use lib.Dec.{eqb, ltb}
 use lib.ListN.{length, get_or}
-use Rattle.lists.specs.Every.{every}
+use Rattle.std.specs.List.{list_all}
+use Rattle.std.proofs.lemmas.Bool.{and_parts}
+use Rattle.std.proofs.lemmas.List.Folds.{list_all-append}
 use Rattle.lists.specs.Tabulate.{tabulate}
 use Rattle.lists.specs.Total.{total}
-use Rattle.lists.proofs.Cases.{and_both}
-use Rattle.lists.proofs.Every.{every_append}
 use Rattle.lists.proofs.Tabulate.{length-tabulate}
 use Rattle.lists.proofs.Total.{total-append}
 use Rattle.raw_bam.specs.Cigar.{op_length, op_code}
@@ -28,31 +28,31 @@ and-true true second p q = q
 and-true false second p q = absurd (false≢true p)
 
 -- a test that holds of two lists holds of both together
-pub every-both : {A : Type 0} (test : A → Bool) (xs ys : List A) → every test xs ≡ true → every test ys ≡ true → every test (xs ++ ys) ≡ true
-every-both test xs ys h g = every_append test xs ys ∙ and-true (every test xs) (every test ys) h g
+pub list_all-both : {A : Type 0} (test : A → Bool) (xs ys : List A) → list_all test xs ≡ true → list_all test ys ≡ true → list_all test (xs ++ ys) ≡ true
+list_all-both test xs ys h g = list_all-append test xs ys ∙ and-true (list_all test xs) (list_all test ys) h g
 
 -- a test that follows from another
-pub every_weaker : {A : Type 0} (test weaker : A → Bool) (xs : List A) → ((x : A) → test x ≡ true → weaker x ≡ true) → every test xs ≡ true → every weaker xs ≡ true
-every_weaker test weaker [] f h = refl
-every_weaker test weaker (x ∷ xs) f h =
-    let both = and_both (test x) (every test xs) h in
-    and-true (weaker x) (every weaker xs) (f x both.0) (every_weaker test weaker xs f both.1)
+pub list_all_weaker : {A : Type 0} (test weaker : A → Bool) (xs : List A) → ((x : A) → test x ≡ true → weaker x ≡ true) → list_all test xs ≡ true → list_all weaker xs ≡ true
+list_all_weaker test weaker [] f h = refl
+list_all_weaker test weaker (x ∷ xs) f h =
+    let both = and_parts (test x) (list_all test xs) h in
+    and-true (weaker x) (list_all weaker xs) (f x both.0) (list_all_weaker test weaker xs f both.1)
 
 -- a test that joining keeps
-pub every-joined : (test : ℕ → Bool) → ((x y : ℕ) → test x ≡ true → test y ≡ true → test (joined_word x y) ≡ true) → (xs : List ℕ) → every test xs ≡ true → every test (joined xs) ≡ true
+pub list_all-joined : (test : ℕ → Bool) → ((x y : ℕ) → test x ≡ true → test y ≡ true → test (joined_word x y) ≡ true) → (xs : List ℕ) → list_all test xs ≡ true → list_all test (joined xs) ≡ true
 unfolding joined prepend
-every-joined test keeps [] h = refl
-every-joined test keeps (x ∷ xs) h =
-    let both = and_both (test x) (every test xs) h in
-    put (joined xs) both.0 (every-joined test keeps xs both.1)
+list_all-joined test keeps [] h = refl
+list_all-joined test keeps (x ∷ xs) h =
+    let both = and_parts (test x) (list_all test xs) h in
+    put (joined xs) both.0 (list_all-joined test keeps xs both.1)
   where
-    by_kind : (y : ℕ) (ys : List ℕ) (same : Bool) → test x ≡ true → test y && every test ys ≡ true → every test (cond same (joined_word x y ∷ ys) (x ∷ y ∷ ys)) ≡ true
+    by_kind : (y : ℕ) (ys : List ℕ) (same : Bool) → test x ≡ true → test y && list_all test ys ≡ true → list_all test (cond same (joined_word x y ∷ ys) (x ∷ y ∷ ys)) ≡ true
     by_kind y ys true p q =
-        let both = and_both (test y) (every test ys) q in
-        and-true (test (joined_word x y)) (every test ys) (keeps x y p both.0) both.1
-    by_kind y ys false p q = and-true (test x) (test y && every test ys) p q
+        let both = and_parts (test y) (list_all test ys) q in
+        and-true (test (joined_word x y)) (list_all test ys) (keeps x y p both.0) both.1
+    by_kind y ys false p q = and-true (test x) (test y && list_all test ys) p q
 
-    put : (ys : List ℕ) → test x ≡ true → every test ys ≡ true → every test (prepend x ys) ≡ true
+    put : (ys : List ℕ) → test x ≡ true → list_all test ys ≡ true → list_all test (prepend x ys) ≡ true
     put [] p q = and-true (test x) true p refl
     put (y ∷ ys) p q = by_kind y ys (eqb (op_code x) (op_code y)) p q
 
@@ -64,7 +64,7 @@ length_join x y = omega arith
 
 run_join : (x y : ℕ) → is_run x ≡ true → is_run y ≡ true → is_run (joined_word x y) ≡ true
 run_join x y p q =
-    let both = and_both (is_extended x) (ltb 0 (op_length x)) p in
+    let both = and_parts (is_extended x) (ltb 0 (op_length x)) p in
     rw (code_join x y)
     (and-true (is_extended x) (ltb 0 (op_length (joined_word x y))) both.0
     (lt-ltb 0 (op_length (joined_word x y)) (omega (arith, ltb-true 0 (op_length x) both.1, length_join x y))))
@@ -87,10 +87,10 @@ length_base a b = by_bytes (eqb a b)
     by_bytes false = refl
 
 module _ (read reference : List ℕ) (i j : ℕ) where
-  run_bases : (n : ℕ) → every is_run (base_by_base read reference i j n) ≡ true
+  run_bases : (n : ℕ) → list_all is_run (base_by_base read reference i j n) ≡ true
   unfolding base_by_base tabulate
   run_bases zero = refl
-  run_bases (suc n) = every-both is_run (base_by_base read reference i j n) (base_word (get_or read (i + n) 0) (get_or reference (j + n) 0) ∷ []) (run_bases n)
+  run_bases (suc n) = list_all-both is_run (base_by_base read reference i j n) (base_word (get_or read (i + n) 0) (get_or reference (j + n) 0) ∷ []) (run_bases n)
       (and-true (is_run (base_word (get_or read (i + n) 0) (get_or reference (j + n) 0))) true (run_base (get_or read (i + n) 0) (get_or reference (j + n) 0)) refl)
 
   total_bases : (n : ℕ) → total op_length (base_by_base read reference i j n) ≡ n
@@ -99,8 +99,8 @@ module _ (read reference : List ℕ) (i j : ℕ) where
   total_bases (suc n) = rw (total-append op_length) (omega (arith, total_bases n, length_base (get_or read (i + n) 0) (get_or reference (j + n) 0)))
 
   -- what one M becomes: = and X, none of length 0, with the bases that it had, no more words than bases
-  pub run_joined : (n : ℕ) → every is_run (joined (base_by_base read reference i j n)) ≡ true
-  run_joined n = every-joined is_run run_join (base_by_base read reference i j n) (run_bases n)
+  pub run_joined : (n : ℕ) → list_all is_run (joined (base_by_base read reference i j n)) ≡ true
+  run_joined n = list_all-joined is_run run_join (base_by_base read reference i j n) (run_bases n)
 
   pub total_run : (n : ℕ) → total op_length (joined (base_by_base read reference i j n)) ≡ n
   total_run n = total-joined (base_by_base read reference i j n) ∙ total_bases n

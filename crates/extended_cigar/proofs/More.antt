@@ -9,10 +9,10 @@ use borrow.Author.Tests.{eq-eqb, ltb-true}
 use lib.Dec.{eqb, leb, ltb}
 use lib.ListN.{length, take, drop, get_or, take-append-drop}
 use lib.Seq.{take-suc}
+use Rattle.std.proofs.lemmas.Bool.{and_parts}
 use Rattle.lists.specs.Tabulate.{tabulate}
 use Rattle.lists.specs.Total.{total}
-use Rattle.lists.proofs.Cases.{and_both}
-use Rattle.lists.proofs.Every.{every_at}
+use Rattle.lists.proofs.Every.{list_all_at}
 use Rattle.lists.proofs.Total.{total-append, total_more}
 use Rattle.raw_bam.specs.Cigar.{op_length, op_code, is_operation, read_bases, reference_bases, read_length, reference_length}
 use Rattle.raw_bam.specs.Simplified.{joined_word, prepend, joined}
@@ -93,9 +93,9 @@ pub record Within (words read reference : List ℕ) (k : ℕ) : Type 0 where
 pub within : (words read reference : List ℕ) (room k : ℕ) → AcceptedThere words read reference room → k < length words → Within words read reference k
 within words read reference room k a h =
     let word = get_or words k 0 in
-    let part = (and_both (is_operation word) (not (is_extended word)) (every_at is_plain words 0 a.operations k h)).0 in
+    let part = (and_parts (is_operation word) (not (is_extended word)) (list_all_at is_plain words 0 a.operations k h)).0 in
     record {
-      long = ltb-true 0 (op_length word) (and_both (leb (op_code word) 8) (ltb 0 (op_length word)) part).1;
+      long = ltb-true 0 (op_length word) (and_parts (leb (op_code word) 8) (ltb 0 (op_length word)) part).1;
       short = omega (arith, a.short, total_more read_bases words k 0 h, total_part read_bases words (k + 1));
       bases = omega (arith, a.bases, total_more read_bases words k 0 h, total_part read_bases words (k + 1));
       reference_bases_lem = omega (arith, a.reference_bases_lem, total_more reference_bases words k 0 h, total_part reference_bases words (k + 1));

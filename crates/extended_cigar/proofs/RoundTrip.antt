@@ -6,9 +6,9 @@ use Prim.Native.Nat.{ℕ, ◌+◌, ◌*◌, ◌<◌}
 use native.Mathlib.Omega.{arith}
 use borrow.Author.Tests.{eqb-true, eq-eqb, ltb-true, not-true}
 use lib.Dec.{leb, ltb}
-use Rattle.lists.specs.Every.{every}
+use Rattle.std.specs.List.{list_all}
+use Rattle.std.proofs.lemmas.Bool.{and_parts}
 use Rattle.lists.specs.Total.{total}
-use Rattle.lists.proofs.Cases.{and_both}
 use Rattle.raw_bam.specs.Cigar.{op_length, op_code, read_bases, reference_bases, is_operation}
 use Rattle.raw_bam.specs.Simplified.{joined_word, joined}
 use Rattle.extended_cigar.specs.Extended.{is_m, is_extended, base_by_base, extended_word, extended_from, extended}
@@ -50,23 +50,23 @@ prepend_twice a b (y ∷ ys) = by_kind (is_m y) refl
 
 plain_run : (word : ℕ) → is_run word ≡ true → plain_word word ≡ op_length word * 16
 unfolding plain_word
-plain_run word h = rw (and_both (is_extended word) (ltb 0 (op_length word)) h).0
+plain_run word h = rw (and_parts (is_extended word) (ltb 0 (op_length word)) h).0
 
 -- a run of = and X goes back to one M
-run_back : (u : ℕ) (us rest : List ℕ) → every is_run (u ∷ us) ≡ true → joined_m (map plain_word (u ∷ us) ++ rest) ≡ prepend_m (total op_length (u ∷ us) * 16) (joined_m rest)
+run_back : (u : ℕ) (us rest : List ℕ) → list_all is_run (u ∷ us) ≡ true → joined_m (map plain_word (u ∷ us) ++ rest) ≡ prepend_m (total op_length (u ∷ us) * 16) (joined_m rest)
 unfolding joined_m total
 run_back u [] rest h =
-    let both = and_both (is_run u) true h in
+    let both = and_parts (is_run u) true h in
     let bases : op_length u + 0 ≡ op_length u = omega arith in
     rw (plain_run u both.0, bases)
 run_back u (v ∷ vs) rest h =
-    let both = and_both (is_run u) (every is_run (v ∷ vs)) h in
+    let both = and_parts (is_run u) (list_all is_run (v ∷ vs)) h in
     ap (prepend_m (plain_word u)) (run_back v vs rest both.1)
     ∙ ap (λ (x : ℕ). prepend_m x (prepend_m (total op_length (v ∷ vs) * 16) (joined_m rest))) (plain_run u both.0)
     ∙ prepend_twice (op_length u) (total op_length (v ∷ vs)) (joined_m rest)
 
 -- the same of a list that is known to have bases
-run_back_to : (us rest : List ℕ) (n : ℕ) → every is_run us ≡ true → total op_length us ≡ n → 0 < n → joined_m (map plain_word us ++ rest) ≡ prepend_m (n * 16) (joined_m rest)
+run_back_to : (us rest : List ℕ) (n : ℕ) → list_all is_run us ≡ true → total op_length us ≡ n → 0 < n → joined_m (map plain_word us ++ rest) ≡ prepend_m (n * 16) (joined_m rest)
 unfolding total
 run_back_to [] rest n h e some = absurd (omega arith)
 run_back_to (u ∷ us) rest n h e some = run_back u us rest h ∙ ap (λ (k : ℕ). prepend_m (k * 16) (joined_m rest)) e
@@ -82,10 +82,10 @@ module _ (read reference : List ℕ) where
   one_back i j word rest h = by_kind (is_m word) refl
     where
       bounds : (is_operation word ≡ true) × (not (is_extended word) ≡ true)
-      bounds = and_both (is_operation word) (not (is_extended word)) h
+      bounds = and_parts (is_operation word) (not (is_extended word)) h
 
       some : 0 < op_length word
-      some = ltb-true 0 (op_length word) (and_both (leb (op_code word) 8) (ltb 0 (op_length word)) bounds.0).1
+      some = ltb-true 0 (op_length word) (and_parts (leb (op_code word) 8) (ltb 0 (op_length word)) bounds.0).1
 
       by_kind : (m : Bool) → is_m word ≡ m
           → joined_m (map plain_word (cond m (joined (base_by_base read reference i j (op_length word))) (word ∷ [])) ++ rest) ≡ prepend_m word (joined_m rest)
@@ -95,16 +95,16 @@ module _ (read reference : List ℕ) where
           ∙ ap (λ (x : ℕ). prepend_m x (joined_m rest)) whole
       by_kind false p = ap (λ (x : ℕ). prepend_m x (joined_m rest)) (plain-stays word (not-true (is_extended word) bounds.1))
 
-  from_back : (i j : ℕ) (words : List ℕ) → every is_plain words ≡ true → joined_m (map plain_word (extended_from read reference i j words)) ≡ joined_m words
+  from_back : (i j : ℕ) (words : List ℕ) → list_all is_plain words ≡ true → joined_m (map plain_word (extended_from read reference i j words)) ≡ joined_m words
   unfolding extended_from joined_m
   from_back i j [] h = refl
   from_back i j (word ∷ words) h =
-      let both = and_both (is_plain word) (every is_plain words) h in
+      let both = and_parts (is_plain word) (list_all is_plain words) h in
       ap joined_m (map-append plain_word (extended_word read reference i j word) (extended_from read reference (i + read_bases word) (j + reference_bases word) words))
       ∙ one_back i j word (map plain_word (extended_from read reference (i + read_bases word) (j + reference_bases word) words)) both.0
       ∙ ap (prepend_m word) (from_back (i + read_bases word) (j + reference_bases word) words both.1)
 
 -- 'There and back gives the plain list with neighbouring M's joined': of a list of plain operations
-pub there_and_back : (words read reference : List ℕ) → every is_plain words ≡ true → plain (extended words read reference) ≡ joined_m words
+pub there_and_back : (words read reference : List ℕ) → list_all is_plain words ≡ true → plain (extended words read reference) ≡ joined_m words
 unfolding plain extended
 there_and_back words read reference h = from_back read reference 0 0 words h

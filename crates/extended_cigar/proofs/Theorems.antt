@@ -5,7 +5,7 @@ use mathlib.Core.Path.{◌≡◌, ap}
 use Prim.Native.Nat.{ℕ, ◌≤◌}
 use native.Mathlib.Omega.{arith}
 use lib.ListN.{length, take}
-use Rattle.lists.specs.Every.{every}
+use Rattle.std.specs.List.{list_all}
 use Rattle.lists.specs.Written.{written}
 use Rattle.lists.proofs.Written.{take_count}
 use Rattle.caller.specs.declared.refusal.Refusal.TheVariants.{NoRefusal}
@@ -26,16 +26,16 @@ pub record Given (words read reference : List ℕ) : Type 0 where
   pub at_most : length (extended words read reference) ≤ 1087
   pub same_read : read_length (extended words read reference) ≡ read_length words
   pub same_reference : reference_length (extended words read reference) ≡ reference_length words
-  pub no_M : every (λ word. not (is_m word)) (extended words read reference) ≡ true
-  pub below : every is_word words ≡ true → every is_word (extended words read reference) ≡ true
+  pub no_M : list_all (λ word. not (is_m word)) (extended words read reference) ≡ true
+  pub below : list_all is_word words ≡ true → list_all is_word (extended words read reference) ≡ true
 
 -- what the way back gives
 pub record GivenBack (words : List ℕ) : Type 0 where
   pub at_most : length (plain words) ≤ length words
   pub same_read : read_length (plain words) ≡ read_length words
   pub same_reference : reference_length (plain words) ≡ reference_length words
-  pub all_plain : every is_plain (plain words) ≡ true
-  pub below : every is_word words ≡ true → every is_word (plain words) ≡ true
+  pub all_plain : list_all is_plain (plain words) ≡ true
+  pub below : list_all is_word words ≡ true → list_all is_word (plain words) ≡ true
 
 -- 'There and back gives the plain list with neighbouring M's joined, proved for all lists accepted'
 pub record ThereAndBack (words read reference : List ℕ) : Type 0 where

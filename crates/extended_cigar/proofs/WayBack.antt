@@ -7,9 +7,9 @@ use native.Mathlib.Omega.{arith}
 use borrow.Author.Tests.{eqb-true, eq-eqb, ltb-true, lt-ltb}
 use lib.Dec.{leb, ltb}
 use lib.ListN.{length, length-map}
-use Rattle.lists.specs.Every.{every}
+use Rattle.std.specs.List.{list_all}
+use Rattle.std.proofs.lemmas.Bool.{and_parts}
 use Rattle.lists.specs.Total.{total}
-use Rattle.lists.proofs.Cases.{and_both}
 use Rattle.raw_bam.specs.Cigar.{op_length, op_code, read_bases, reference_bases, read_length, reference_length, is_operation}
 use Rattle.raw_bam.specs.Simplified.{joined_word}
 use Rattle.extended_cigar.specs.Extended.{is_m, is_extended}
@@ -79,66 +79,66 @@ length-joined_m (x ∷ xs) = put (joined_m xs) (length-joined_m xs)
     put (y ∷ ys) h = by_kind y ys (is_m x && is_m y) h
 
 -- a joined M has at most 1,024 bases
-words-joined_m : (xs : List ℕ) → every is_word xs ≡ true → read_length xs ≤ 1024 → every is_word (joined_m xs) ≡ true
+words-joined_m : (xs : List ℕ) → list_all is_word xs ≡ true → read_length xs ≤ 1024 → list_all is_word (joined_m xs) ≡ true
 unfolding joined_m prepend_m total
 words-joined_m [] h short = refl
 words-joined_m (x ∷ xs) h short =
-    let both = and_both (is_word x) (every is_word xs) h in
+    let both = and_parts (is_word x) (list_all is_word xs) h in
     put (joined_m xs) both.0 (words-joined_m xs both.1 (omega arith)) (omega (arith, total-joined_m read_bases read-M xs))
   where
-    by_kind : (y : ℕ) (ys : List ℕ) (mx my : Bool) → is_m x ≡ mx → is_m y ≡ my → is_word x ≡ true → is_word y && every is_word ys ≡ true
+    by_kind : (y : ℕ) (ys : List ℕ) (mx my : Bool) → is_m x ≡ mx → is_m y ≡ my → is_word x ≡ true → is_word y && list_all is_word ys ≡ true
         → read_bases x + (read_bases y + read_length ys) ≤ 1024
-        → every is_word (cond (mx && my) (joined_word x y ∷ ys) (x ∷ y ∷ ys)) ≡ true
+        → list_all is_word (cond (mx && my) (joined_word x y ∷ ys) (x ∷ y ∷ ys)) ≡ true
     by_kind y ys true true p q h g short =
-        and-true (is_word (joined_word x y)) (every is_word ys) (lt-ltb (joined_word x y) 4294967296 (omega (arith, read-M x p, read-M y q))) (and_both (is_word y) (every is_word ys) g).1
-    by_kind y ys true false p q h g short = and-true (is_word x) (is_word y && every is_word ys) h g
-    by_kind y ys false my p q h g short = and-true (is_word x) (is_word y && every is_word ys) h g
+        and-true (is_word (joined_word x y)) (list_all is_word ys) (lt-ltb (joined_word x y) 4294967296 (omega (arith, read-M x p, read-M y q))) (and_parts (is_word y) (list_all is_word ys) g).1
+    by_kind y ys true false p q h g short = and-true (is_word x) (is_word y && list_all is_word ys) h g
+    by_kind y ys false my p q h g short = and-true (is_word x) (is_word y && list_all is_word ys) h g
 
-    put : (ys : List ℕ) → is_word x ≡ true → every is_word ys ≡ true → read_bases x + read_length ys ≤ 1024 → every is_word (prepend_m x ys) ≡ true
+    put : (ys : List ℕ) → is_word x ≡ true → list_all is_word ys ≡ true → read_bases x + read_length ys ≤ 1024 → list_all is_word (prepend_m x ys) ≡ true
     put [] h g short = and-true (is_word x) true h refl
     put (y ∷ ys) h g short = by_kind y ys (is_m x) (is_m y) refl refl h g short
 
-words-plain : (words : List ℕ) → every is_word words ≡ true → every is_word (map plain_word words) ≡ true
+words-plain : (words : List ℕ) → list_all is_word words ≡ true → list_all is_word (map plain_word words) ≡ true
 unfolding plain_word
 words-plain [] h = refl
 words-plain (word ∷ words) h =
-    let both = and_both (is_word word) (every is_word words) h in
-    and-true (is_word (plain_word word)) (every is_word (map plain_word words)) (by_kind (is_extended word) both.0) (words-plain words both.1)
+    let both = and_parts (is_word word) (list_all is_word words) h in
+    and-true (is_word (plain_word word)) (list_all is_word (map plain_word words)) (by_kind (is_extended word) both.0) (words-plain words both.1)
   where
     by_kind : (ext : Bool) → is_word word ≡ true → is_word (cond ext (op_length word * 16) word) ≡ true
     by_kind true h = lt-ltb (op_length word * 16) 4294967296 (omega (arith, ltb-true word 4294967296 h))
     by_kind false h = h
 
-plain-words : (words : List ℕ) → every is_operation words ≡ true → every is_plain (map plain_word words) ≡ true
+plain-words : (words : List ℕ) → list_all is_operation words ≡ true → list_all is_plain (map plain_word words) ≡ true
 unfolding plain_word
 plain-words [] h = refl
 plain-words (word ∷ words) h =
-    let both = and_both (is_operation word) (every is_operation words) h in
-    and-true (is_plain (plain_word word)) (every is_plain (map plain_word words)) (by_kind (is_extended word) refl both.0) (plain-words words both.1)
+    let both = and_parts (is_operation word) (list_all is_operation words) h in
+    and-true (is_plain (plain_word word)) (list_all is_plain (map plain_word words)) (by_kind (is_extended word) refl both.0) (plain-words words both.1)
   where
     by_kind : (ext : Bool) → is_extended word ≡ ext → is_operation word ≡ true → is_plain (cond ext (op_length word * 16) word) ≡ true
     by_kind true p h =
-        let some = ltb-true 0 (op_length word) (and_both (leb (op_code word) 8) (ltb 0 (op_length word)) h).1 in
+        let some = ltb-true 0 (op_length word) (and_parts (leb (op_code word) 8) (ltb 0 (op_length word)) h).1 in
         M-plain (op_length word * 16) (M_bases (op_length word)) (omega (arith, length_bases (op_length word)))
     by_kind false p h = and-true (is_operation word) (not (is_extended word)) h (rw p)
 
-plain-joined_m : (xs : List ℕ) → every is_plain xs ≡ true → every is_plain (joined_m xs) ≡ true
+plain-joined_m : (xs : List ℕ) → list_all is_plain xs ≡ true → list_all is_plain (joined_m xs) ≡ true
 unfolding joined_m prepend_m
 plain-joined_m [] h = refl
 plain-joined_m (x ∷ xs) h =
-    let both = and_both (is_plain x) (every is_plain xs) h in
+    let both = and_parts (is_plain x) (list_all is_plain xs) h in
     put (joined_m xs) both.0 (plain-joined_m xs both.1)
   where
-    by_kind : (y : ℕ) (ys : List ℕ) (mx my : Bool) → is_m x ≡ mx → is_plain x ≡ true → is_plain y && every is_plain ys ≡ true
-        → every is_plain (cond (mx && my) (joined_word x y ∷ ys) (x ∷ y ∷ ys)) ≡ true
+    by_kind : (y : ℕ) (ys : List ℕ) (mx my : Bool) → is_m x ≡ mx → is_plain x ≡ true → is_plain y && list_all is_plain ys ≡ true
+        → list_all is_plain (cond (mx && my) (joined_word x y ∷ ys) (x ∷ y ∷ ys)) ≡ true
     by_kind y ys true true p h g =
-        let op = (and_both (is_operation x) (not (is_extended x)) h).0 in
-        let some = ltb-true 0 (op_length x) (and_both (leb (op_code x) 8) (ltb 0 (op_length x)) op).1 in
-        and-true (is_plain (joined_word x y)) (every is_plain ys) (M-plain (joined_word x y) (M_join x y p) (omega (arith, length_join x y))) (and_both (is_plain y) (every is_plain ys) g).1
-    by_kind y ys true false p h g = and-true (is_plain x) (is_plain y && every is_plain ys) h g
-    by_kind y ys false my p h g = and-true (is_plain x) (is_plain y && every is_plain ys) h g
+        let op = (and_parts (is_operation x) (not (is_extended x)) h).0 in
+        let some = ltb-true 0 (op_length x) (and_parts (leb (op_code x) 8) (ltb 0 (op_length x)) op).1 in
+        and-true (is_plain (joined_word x y)) (list_all is_plain ys) (M-plain (joined_word x y) (M_join x y p) (omega (arith, length_join x y))) (and_parts (is_plain y) (list_all is_plain ys) g).1
+    by_kind y ys true false p h g = and-true (is_plain x) (is_plain y && list_all is_plain ys) h g
+    by_kind y ys false my p h g = and-true (is_plain x) (is_plain y && list_all is_plain ys) h g
 
-    put : (ys : List ℕ) → is_plain x ≡ true → every is_plain ys ≡ true → every is_plain (prepend_m x ys) ≡ true
+    put : (ys : List ℕ) → is_plain x ≡ true → list_all is_plain ys ≡ true → list_all is_plain (prepend_m x ys) ≡ true
     put [] h g = and-true (is_plain x) true h refl
     put (y ∷ ys) h g = by_kind y ys (is_m x) (is_m y) refl h g
 
@@ -156,11 +156,11 @@ module _ (words : List ℕ) where
   unfolding plain
   reference_back = total-joined_m reference_bases reference_M (map plain_word words) ∙ total-words reference_bases reference_M reference_extended words
 
-  pub below_back : every is_word words ≡ true → read_length words ≤ 1024 → every is_word (plain words) ≡ true
+  pub below_back : list_all is_word words ≡ true → read_length words ≤ 1024 → list_all is_word (plain words) ≡ true
   unfolding plain
   below_back h short = words-joined_m (map plain_word words) (words-plain words h) (omega (arith, total-words read_bases read-M read-extended words))
 
   -- only plain operations are left: no = and no X
-  pub plain_back : every is_operation words ≡ true → every is_plain (plain words) ≡ true
+  pub plain_back : list_all is_operation words ≡ true → list_all is_plain (plain words) ≡ true
   unfolding plain
   plain_back h = plain-joined_m (map plain_word words) (plain-words words h)

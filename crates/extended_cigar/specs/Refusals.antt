@@ -1,6 +1,6 @@
 -- Document 02, Req 08, 'Errors': 24, 25 and 26 of both ways, lowest number first.
 use Rattle.std.specs.Prelude.{Bool, true, false, not, ◌&&◌, ◌||◌, List, ℕ, eqb, ltb, length}
-use Rattle.lists.specs.Every.{every}
+use Rattle.std.specs.List.{list_all}
 use Rattle.caller.specs.declared.refusal.Refusal.{Refusal}
 use Rattle.caller.specs.Refusals.{refused_if, or_else}
 use Rattle.raw_bam.specs.Cigar.{is_operation, read_length, reference_length}
@@ -17,10 +17,10 @@ allowed false word = is_operation word
 
 -- 24: 'a plain list holding = or X, or either list an operation that refusal 4 would catch'
 unfoldable pub bad_plain_words : List ℕ → Bool
-bad_plain_words words = not (every (allowed true) words)
+bad_plain_words words = not (list_all (allowed true) words)
 
 unfoldable pub bad_extended_words : List ℕ → Bool
-bad_extended_words words = not (every (allowed false) words)
+bad_extended_words words = not (list_all (allowed false) words)
 
 -- 25: 'at most 64 on the plain side' and '1,024 read bases', 'or bases not as many as the list consumes'
 unfoldable pub past_plain_limits : List ℕ → ℕ → ℕ → Bool

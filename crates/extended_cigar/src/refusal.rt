@@ -1,11 +1,11 @@
 // Refusals 24 to 26 of both ways.
 ghost use Rattle.std.specs.Prelude.{not, ◌≡◌};
-ghost use Rattle.lists.specs.Every.{every};
+ghost use Rattle.std.specs.List.{list_all};
 ghost use Rattle.extended_cigar.specs.Extended.{is_extended};
 ghost use Rattle.extended_cigar.specs.Refusals.{allowed, past_plain_limits, past_extended_limits, refusal_there, refusal_back};
 
 use caller::refusal::{Refusal, or_else, refused_if};
-use raw_bam::cigar::{bases_of_cigar, is_operation, read_length_from_cigar};
+use raw_bam::cigar::{is_operation, read_length_from_cigar, reference_length_from_cigar};
 
 const OUTPUT_WORDS: usize = 2048;
 
@@ -27,7 +27,7 @@ fn is_allowed(word: u32, plain: bool) -> bool
 
 // Asked of the whole list, however long it is.
 fn has_bad_word(words: &[u32], plain: bool) -> bool
-    ensures { result ≡ not (every (allowed plain) words.now) }
+    ensures { result ≡ not (list_all (allowed plain) words.now) }
 {
     let mut i = 0;
     while i < words.len() {
@@ -40,14 +40,16 @@ fn has_bad_word(words: &[u32], plain: bool) -> bool
 }
 
 // Only a short list is summed, so the sums fit.
+#[tactic(auto, unfolding(crate::specs::Refusals::past_plain_limits))]
 fn is_past_plain_limits(words: &[u32], read: usize, reference: usize) -> bool
     ensures { result ≡ past_plain_limits words.now read reference }
 {
     if 64 < words.len() {
         return true;
     }
-    let bases = bases_of_cigar(words);
-    (1024 < bases.read) | (read as u64 != bases.read) | (reference as u64 != bases.reference)
+    let read_bases = read_length_from_cigar(words);
+    let reference_bases = reference_length_from_cigar(words);
+    1024 < read_bases || read as u64 != read_bases || reference as u64 != reference_bases
 }
 
 fn is_past_extended_limits(words: &[u32]) -> bool

@@ -1,7 +1,7 @@
 -- Laws of what a family call answers: the list is short, and so is the duplex.
 use mathlib.Core.Bool.{false}
 use mathlib.Core.List.{List, []}
-use mathlib.Core.Path.{◌≡◌, refl}
+use mathlib.Core.Path.{◌≡◌, refl, ap}
 use Prim.Native.Nat.{ℕ}
 use native.Mathlib.Omega.{arith}
 use lib.Dec.{ltb}
@@ -14,13 +14,14 @@ use Rattle.codec_family.proofs.Counting.{counted-all, counted-rejections}
 use Rattle.codec_family.proofs.Refusing.{records_stand}
 use Rattle.codec_family.proofs.Selected.{few_records}
 use Rattle.codec_family.proofs.Settled.{fated}
-use Rattle.codec_family.specs.Answer.{reported}
+use Rattle.codec_family.specs.Answer.{reported, reported_answer}
 use Rattle.codec_family.specs.Call.{Call, Lent}
 use Rattle.codec_family.specs.Ending.{called_length, ending}
 use Rattle.codec_family.specs.Fates.{fates}
 use Rattle.codec_family.specs.FamilyCalled.{ending_with, fates_with, Results}
 use Rattle.codec_family.specs.Refusals.{of_records, of_call}
-use Rattle.codec_family.specs.declared.answer.FamilyAnswer.{FamilyAnswer}
+use Rattle.codec_family.specs.declared.answer.Answer.{Answer}
+use Rattle.codec_family.specs.declared.answer.FamilyEnding.{FamilyEnding}
 use Rattle.codec_family.specs.declared.ending.Ending.TheVariants as endings
 use Rattle.codec_family.specs.declared.ending.Ending.{Ending}
 use Rattle.codec_rejects.proofs.Listing.{length-handover}
@@ -44,16 +45,19 @@ no_rejections : rejections [] ≡ 0
 unfolding rejections total
 no_rejections = refl
 
-module _ (c : Call) (before after : Lent) (answer : FamilyAnswer) where
-  refused_short : (number given : ℕ) → Results c (Refused number given) before answer after → Short answer
+module _ (c : Call) (before after : Lent) (answer : Answer) where
+  refused_short : (number given : ℕ) → Results c (Refused number given) before (reported_answer answer) after → Short answer
   unfolding ending_with fates_with
-  refused_short number given results = record { few = omega (arith, results.list_length, length-handover [], no_rejections); short = rw results.ended (omega arith) }
+  refused_short number given results = record {
+    few = omega (arith, results.list_length, length-handover [], no_rejections);
+    short = omega (arith, reported-length answer.ending, ap (λ (e : FamilyEnding). e.length) results.ended);
+  }
 
-  called_few : is_refusal (of_records c) ≡ false → Results c NoRefusal before answer after → Short answer
+  called_few : is_refusal (of_records c) ≡ false → Results c NoRefusal before (reported_answer answer) after → Short answer
   unfolding ending_with fates_with
   called_few none results = record {
     few = omega (arith, results.list_length, length-handover (fates c), counted-rejections c, counted-all c (fated c none), few_records c none);
-    short = rw (results.ended, reported-length (ending c)) (omega (arith, called_short c none));
+    short = omega (arith, reported-length answer.ending, ap (λ (e : FamilyEnding). e.length) results.ended, reported-length (ending c), called_short c none);
   }
 
 -- a call that is not refused is not refused for its records
@@ -62,7 +66,7 @@ unfolding sampled_refusal
 stands c books none = records_stand c.call (neither_refuses (of_call c.call) _ (neither_refuses (refused_if (ltb 95 c.sample) 20 0) _ none).1).0
 
 -- a family lists at most its 512 records, and no duplex is longer than 2,047
-pub answer_short : (c : SampledCall) (books : Books) (before after : Lent) (answer : FamilyAnswer) (samples : List Counts) → SampledFamilyCalled c books before answer samples after → Short answer
+pub answer_short : (c : SampledCall) (books : Books) (before after : Lent) (answer : Answer) (samples : List Counts) → SampledFamilyCalled c books before (reported_answer answer) samples after → Short answer
 answer_short c books before after answer samples called = go (sampled_refusal c books) refl
   where
     go : (r : Refusal) → sampled_refusal c books ≡ r → Short answer

@@ -1,6 +1,7 @@
 -- Where a family and a window end, and what is handed on there.
 use Rattle.std.specs.Prelude.{Bool, true, List, ◌≡◌, ℕ, ◌≤◌}
-use Rattle.codec_family.specs.declared.answer.FamilyAnswer.{FamilyAnswer}
+use Rattle.codec_family.specs.Ending.{called_length}
+use Rattle.codec_family.specs.declared.answer.Answer.{Answer}
 use Rattle.line_text.specs.Reading.{lines_from, stop_place}
 use Rattle.ledger_lines.specs.declared.settings.Handed.{Handed}
 use Rattle.family_windows.specs.Places.{Onward}
@@ -11,9 +12,9 @@ use Rattle.family_calls.specs.declared.answers.Step.{Step}
 use Rattle.family_calls.specs.declared.answers.Step.TheVariants as steps
 
 -- a family lists at most 512 records, and its duplex has at most 2,048 places
-pub record Short (answer : FamilyAnswer) : Type 0 where
+pub record Short (answer : Answer) : Type 0 where
   pub few : answer.listed ≤ 512
-  pub short : answer.ending.length ≤ 2048
+  pub short : called_length answer.ending ≤ 2048
 
 abbrev pub StepWithin : ℕ → ℕ → ℕ → Step → Type 0
 StepWithin at size room (steps.Until after to) = Onward at size room after to

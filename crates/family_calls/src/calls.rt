@@ -11,9 +11,9 @@ ghost use Rattle.family_calls.specs.Places.{Short};
 use crate::form::Form;
 use crate::writing;
 use codec_caller::choosing::select_fates;
-use codec_family::answer::FamilyAnswer;
+use codec_family::answer::Answer;
 use codec_family::room::Widths;
-use codec_records::columns::columns_of;
+use codec_records::columns::gather;
 use codec_records::records::Record;
 use codec_samples::family::consensus_reads_sampled;
 use codec_stats::ledger::Ledger;
@@ -30,7 +30,7 @@ const MARKS: usize = 16;
 
 // How much of the output is filled, and what the family hands on.
 #[derive(Drop)]
-pub struct Answer {
+pub struct Answered {
     pub to: usize,
     pub handed: Handed,
 }
@@ -68,7 +68,7 @@ fn call_family(
     listed: &mut [u32],
     reasons: &mut [u8],
     marks: &mut [u64],
-) -> FamilyAnswer
+) -> Answer
     requires announced { Announced found × (9000 ≤ length ops.now) }
     requires held { Held r1 × Roomy (strand r1_bases.now r1_quals.now r1_depths.now r1_errors.now) }
     requires held_2 { Held r2 × Roomy (strand r2_bases.now r2_quals.now r2_depths.now r2_errors.now) }
@@ -89,12 +89,8 @@ fn call_family(
     let r2_quals_end = r2.quals;
     let r2_depths_end = r2.depths;
     let r2_errors_end = r2.errors;
-    let chosen = select_fates(
-        columns_of(table, found.records),
-        found.records,
-        &ops[..words],
-        found.options,
-    );
+    let gathered = gather(&table, found.records);
+    let chosen = select_fates(&gathered, &ops[..words], found.options);
     consensus_reads_sampled(
         chosen,
         found.records,
@@ -128,6 +124,7 @@ fn call_family(
         &mut reasons[..list],
         &mut marks[..mark_words],
     )
+    .answer()
 }
 
 // The answer to a family, behind what the output holds; all that is lent is zero before.
@@ -151,7 +148,7 @@ pub(crate) fn answer_family(
     r2_errors: &[u16],
     output: &mut [u8],
     to: usize,
-) -> Answer
+) -> Answered
     requires announced { Announced found × (9000 ≤ length ops.now) }
     requires held { Held r1 × Roomy (strand r1_bases.now r1_quals.now r1_depths.now r1_errors.now) }
     requires held_2 { Held r2 × Roomy (strand r2_bases.now r2_quals.now r2_depths.now r2_errors.now) }
@@ -223,7 +220,7 @@ pub(crate) fn answer_family(
         &d_errors, &s1_bases, &s1_quals, &s1_depths, &s1_errors, &s2_bases, &s2_quals, &s2_depths,
         &s2_errors, output, at,
     );
-    Answer {
+    Answered {
         to: end,
         handed: after,
     }

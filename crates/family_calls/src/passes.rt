@@ -11,7 +11,7 @@ use family_windows::{output, windows};
 use handover_text::sheet;
 use ledger_lines::settings::Handed;
 use line_text::lines;
-use sheet_text::sheet::{Sheet, write_sheet};
+use sheet_text::sheet::write_sheet;
 use std::io::{Read, Seek};
 
 // Room for the longest answer, and for many of the usual ones.
@@ -22,8 +22,8 @@ fn write_samples(rt: &(impl Print + Eprint), samples: &[u64; 1920], output: &mut
     requires { 113239 ≤ length output.old }
 {
     match write_sheet(samples, output) {
-        Sheet::Written(end) => output::write_out(rt, &output[..end]),
-        Sheet::Refused(number) => output::write_refusal(rt, number as u64, 0),
+        Ok(end) => output::write_out(rt, &output[..end]),
+        Err(refusal) => output::write_refusal(rt, u64::from(refusal.number()), 0),
     }
 }
 

@@ -9,7 +9,7 @@ ghost use Rattle.family_calls.specs.Written.{written_text};
 
 use crate::form::Form;
 use answer_text::{family_answer, sample_line};
-use codec_family::answer::FamilyAnswer;
+use codec_family::answer::Answer;
 use handover_text::handover;
 use ledger_lines::settings::Handed;
 
@@ -20,7 +20,7 @@ pub(crate) const ANSWER_BYTES: usize = 113239;
 pub(crate) fn write_answer(
     form: Form,
     number: u64,
-    answer: FamilyAnswer,
+    answer: Answer,
     after: Handed,
     listed: &[u32],
     reasons: &[u8],

@@ -1,8 +1,11 @@
 -- The list that is handed over: the families that gave no duplex, and their rejected records.
-use Rattle.std.specs.Prelude.{cond, List, [], ◌∷◌, ◌++◌, ℕ, ◌≤◌, eqb, length, get_or}
-use Rattle.codec_family.specs.Answer.{empty_number, no_strand_number, rejected_number, says_called}
-use Rattle.codec_family.specs.declared.answer.FamilyAnswer.{FamilyAnswer}
-use Rattle.codec_family.specs.declared.answer.FamilyEnding.{FamilyEnding}
+use Rattle.std.specs.Prelude.{cond, List, [], ◌∷◌, ◌++◌, ℕ, ◌≤◌, length, get_or}
+use Rattle.caller.specs.Reasons.{name_of}
+use Rattle.caller.specs.declared.reason.RejectionReason.TheVariants.{FragmentRead, NotPrimaryFrPair, InsufficientReads, MinorityAlignment, Downsampled, InsufficientOverlap, IndelErrorBetweenStrands, Dovetail, ClipOverlapFailed, HighDuplexDisagreement}
+use Rattle.codec_family.specs.Ending.{is_called}
+use Rattle.codec_family.specs.declared.answer.Answer.{Answer}
+use Rattle.codec_family.specs.declared.ending.Ending.{Ending}
+use Rattle.codec_family.specs.declared.ending.Ending.TheVariants.{Called, Empty, NoStrand, Rejected, Disagreeing, Refused}
 use Rattle.table_text.specs.Text.{bytes_of}
 use Rattle.table_text.specs.Texts.{texts}
 use Rattle.answer_text.specs.Line.{fields_text, line_with}
@@ -11,16 +14,16 @@ use Rattle.answer_text.specs.Line.{fields_text, line_with}
 abbrev pub reason_names : List (List ℕ)
 reason_names =
     [] ∷
-    bytes_of "FragmentRead" ∷
-    bytes_of "NotPrimaryFrPair" ∷
-    bytes_of "InsufficientReads" ∷
-    bytes_of "MinorityAlignment" ∷
-    bytes_of "Downsampled" ∷
-    bytes_of "InsufficientOverlap" ∷
-    bytes_of "IndelErrorBetweenStrands" ∷
-    bytes_of "Dovetail" ∷
-    bytes_of "ClipOverlapFailed" ∷
-    bytes_of "HighDuplexDisagreement" ∷
+    name_of FragmentRead ∷
+    name_of NotPrimaryFrPair ∷
+    name_of InsufficientReads ∷
+    name_of MinorityAlignment ∷
+    name_of Downsampled ∷
+    name_of InsufficientOverlap ∷
+    name_of IndelErrorBetweenStrands ∷
+    name_of Dovetail ∷
+    name_of ClipOverlapFailed ∷
+    name_of HighDuplexDisagreement ∷
     []
 
 -- the name of the reason with a number; nothing where no reason has it
@@ -28,15 +31,16 @@ unfoldable pub reason_name : ℕ → List ℕ
 reason_name number = get_or reason_names number []
 
 -- how a family without a duplex ended
-unfoldable pub outcome_text : FamilyEnding → List ℕ
-outcome_text e =
-    cond (eqb e.kind empty_number) (bytes_of " empty")
-    (cond (eqb e.kind no_strand_number) (bytes_of " no strand")
-    (cond (eqb e.kind rejected_number) (bytes_of " rejected " ++ reason_name e.number)
-    (bytes_of " refused" ++ fields_text (e.number ∷ e.with ∷ []))))
+unfoldable pub outcome_text : Ending → List ℕ
+outcome_text (Called length) = []
+outcome_text Empty = bytes_of " empty"
+outcome_text NoStrand = bytes_of " no strand"
+outcome_text (Rejected reason) = bytes_of " rejected " ++ name_of reason
+outcome_text (Disagreeing limit) = bytes_of " rejected " ++ name_of HighDuplexDisagreement
+outcome_text (Refused number given) = bytes_of " refused" ++ fields_text (number ∷ given ∷ [])
 
 -- `family FAMILY empty | no strand | rejected NAME | refused NUMBER WITH`
-unfoldable pub ended_text : (family : ℕ) → FamilyEnding → List ℕ
+unfoldable pub ended_text : (family : ℕ) → Ending → List ℕ
 ended_text family e = line_with (bytes_of "family") (fields_text (family ∷ []) ++ outcome_text e)
 
 -- `record FAMILY RECORD NAME`
@@ -48,12 +52,12 @@ unfoldable pub rejections_text : (family n : ℕ) → (records reasons : List �
 rejections_text family n records reasons = texts (λ i. rejected_text family (get_or records i 0) (get_or reasons i 0)) n
 
 -- what is handed over of a family: nothing where it was called
-unfoldable pub handover_text : (family : ℕ) → FamilyAnswer → (records reasons : List ℕ) → List ℕ
+unfoldable pub handover_text : (family : ℕ) → Answer → (records reasons : List ℕ) → List ℕ
 handover_text family answer records reasons =
-    cond (says_called answer.ending) [] (ended_text family answer.ending ++ rejections_text family answer.listed records reasons)
+    cond (is_called answer.ending) [] (ended_text family answer.ending ++ rejections_text family answer.listed records reasons)
 
 -- the list columns are as long as the answer says, and no longer than a call can fill
-pub record Listing (answer : FamilyAnswer) (records reasons : List ℕ) : Type 0 where
+pub record Listing (answer : Answer) (records reasons : List ℕ) : Type 0 where
   pub few : answer.listed ≤ 512
   pub enough_records : answer.listed ≤ length records
   pub enough_reasons : answer.listed ≤ length reasons

@@ -1,10 +1,10 @@
 -- The ledger as a sheet for people: one figure a line, by document 01's words.
-use Rattle.std.specs.Prelude.{List, [], ◌∷◌, ◌++◌, ℕ, ◌+◌, ◌/◌, ◌%◌, get_or}
+use Rattle.std.specs.Prelude.{Result, Ok, Err, List, [], ◌∷◌, ◌++◌, ℕ, ◌+◌, ◌/◌, ◌%◌, get_or}
 use Prim.Native.Char.{code}
-use Rattle.codec_stats.specs.Ledger.{rates_of}
+use Rattle.codec_stats.specs.Ledger.{refusal_number, rates_of}
 use Rattle.codec_stats.specs.declared.ledger.Ledger.{Ledger}
 use Rattle.codec_stats.specs.declared.rates.LedgerRates.{LedgerRates}
-use Rattle.codec_stats.specs.declared.rates.LedgerRates.TheVariants.{Rates, Refused}
+use Rattle.codec_stats.specs.declared.refusals.LedgerRefusal.{LedgerRefusal}
 use Rattle.table_text.specs.Decimal.{decimal}
 use Rattle.table_text.specs.Text.{bytes_of, space}
 use Rattle.table_text.specs.Texts.{texts}
@@ -56,10 +56,10 @@ fraction_text millionths =
     [])
 
 -- filtered, the rate to six places, rounded down, and the rate in millionths; or refusal 10
-unfoldable pub rates_text : LedgerRates → List ℕ
-rates_text (Rates filtered rate millionths) =
-    line_text (bytes_of "filtered:") (filtered ∷ []) ++ (line_with (bytes_of "rate:") (fraction_text millionths) ++ line_text (bytes_of "rate in millionths:") (millionths ∷ []))
-rates_text (Refused number given) = line_text (bytes_of "refused:") (number ∷ given ∷ [])
+unfoldable pub rates_text : Result LedgerRates LedgerRefusal → List ℕ
+rates_text (Ok found) =
+    line_text (bytes_of "filtered:") (found.filtered ∷ []) ++ (line_with (bytes_of "rate:") (fraction_text found.millionths) ++ line_text (bytes_of "rate in millionths:") (found.millionths ∷ []))
+rates_text (Err refusal) = line_text (bytes_of "refused:") (refusal_number refusal ∷ 0 ∷ [])
 
 -- the sheet of a ledger: every figure
 unfoldable pub sheet_text : Ledger → List ℕ

@@ -1,56 +1,63 @@
 // The list that is handed over, for people: the families that gave no duplex, and their rejected records with the reasons by name.
 ghost use Rattle.std.specs.Prelude.{◌+◌, ◌*◌, ◌≤◌, length};
+ghost use Rattle.caller.specs.Reasons.{name_of};
 ghost use Rattle.table_text.specs.OutputTable.{Stored};
 ghost use Rattle.handover_text.specs.Handover.{reason_name, outcome_text, ended_text, rejected_text, rejections_text, handover_text, Listing};
 
-use answer_text::family_answer::{CALLED, EMPTY, NO_STRAND, REJECTED};
 use answer_text::line::{end_line, write_fields, write_words};
-use codec_family::answer::{FamilyAnswer, FamilyEnding};
+use caller::reason::RejectionReason;
+use codec_family::answer::Answer;
+use codec_family::ending::Ending;
 
 // Room for what is handed over of a family: 78 bytes for how it ended, and 74 for each of 512 records.
 pub const HANDOVER_BYTES: usize = 37966;
 
 // The longest name has 24 bytes.
-pub(crate) fn write_reason(number: u32, output: &mut [u8], to: usize) -> usize
+fn write_name(reason: RejectionReason, output: &mut [u8], to: usize) -> usize
+    requires { to + 24 ≤ length output.old }
+    ensures stored { Stored (name_of reason) output.old to output.new result }
+    ensures upper_bound { result ≤ to + 24 }
+{
+    write_words(reason.name().as_bytes(), output, to)
+}
+
+// The name of the reason with a number; nothing where no reason has it.
+pub(crate) fn write_reason(number: u8, output: &mut [u8], to: usize) -> usize
     requires { to + 24 ≤ length output.old }
     ensures stored { Stored (reason_name number) output.old to output.new result }
     ensures upper_bound { result ≤ to + 24 }
 {
-    match number {
-        1 => write_words(b"FragmentRead", output, to),
-        2 => write_words(b"NotPrimaryFrPair", output, to),
-        3 => write_words(b"InsufficientReads", output, to),
-        4 => write_words(b"MinorityAlignment", output, to),
-        5 => write_words(b"Downsampled", output, to),
-        6 => write_words(b"InsufficientOverlap", output, to),
-        7 => write_words(b"IndelErrorBetweenStrands", output, to),
-        8 => write_words(b"Dovetail", output, to),
-        9 => write_words(b"ClipOverlapFailed", output, to),
-        10 => write_words(b"HighDuplexDisagreement", output, to),
-        _ => to,
+    match RejectionReason::try_from(number) {
+        Ok(reason) => write_name(reason, output, to),
+        Err(_) => to,
     }
 }
 
-fn write_outcome(ending: FamilyEnding, output: &mut [u8], to: usize) -> usize
+fn write_outcome(ending: Ending, output: &mut [u8], to: usize) -> usize
     requires { to + 50 ≤ length output.old }
     ensures stored { Stored (outcome_text ending) output.old to output.new result }
     ensures upper_bound { result ≤ to + 50 }
 {
-    if ending.kind == EMPTY {
-        return write_words(b" empty", output, to);
+    match ending {
+        Ending::Called(_) => to,
+        Ending::Empty => write_words(b" empty", output, to),
+        Ending::NoStrand => write_words(b" no strand", output, to),
+        Ending::Rejected(reason) => {
+            let at_reason = write_words(b" rejected ", output, to);
+            write_name(reason, output, at_reason)
+        }
+        Ending::Disagreeing(_) => {
+            let at_reason = write_words(b" rejected ", output, to);
+            write_name(RejectionReason::HighDuplexDisagreement, output, at_reason)
+        }
+        Ending::Refused(number, given) => {
+            let at_numbers = write_words(b" refused", output, to);
+            write_fields(&[u64::from(number), given as u64], output, at_numbers)
+        }
     }
-    if ending.kind == NO_STRAND {
-        return write_words(b" no strand", output, to);
-    }
-    if ending.kind == REJECTED {
-        let at_reason = write_words(b" rejected ", output, to);
-        return write_reason(ending.number, output, at_reason);
-    }
-    let at_numbers = write_words(b" refused", output, to);
-    write_fields(&[ending.number as u64, ending.with], output, at_numbers)
 }
 
-fn write_ended(family: u64, ending: FamilyEnding, output: &mut [u8], to: usize) -> usize
+fn write_ended(family: u64, ending: Ending, output: &mut [u8], to: usize) -> usize
     requires { to + 78 ≤ length output.old }
     ensures stored { Stored (ended_text family ending) output.old to output.new result }
     ensures upper_bound { result ≤ to + 78 }
@@ -67,9 +74,9 @@ fn write_rejected(family: u64, listed: u32, reason: u8, output: &mut [u8], to: u
     ensures upper_bound { result ≤ to + 74 }
 {
     let at_numbers = write_words(b"record", output, to);
-    let at_space = write_fields(&[family, listed as u64], output, at_numbers);
+    let at_space = write_fields(&[family, u64::from(listed)], output, at_numbers);
     let at_reason = write_words(b" ", output, at_space);
-    let end = write_reason(reason as u32, output, at_reason);
+    let end = write_reason(reason, output, at_reason);
     end_line(output, end)
 }
 
@@ -87,10 +94,8 @@ fn write_rejections(
     ensures upper_bound { result ≤ to + 74 * n }
 {
     let mut end = to;
-    let mut i = 0;
-    while i < n {
+    for i in 0..n {
         end = write_rejected(family, records[i], reasons[i], output, end);
-        i += 1;
     }
     end
 }
@@ -98,7 +103,7 @@ fn write_rejections(
 // Writes what is handed over of a family from place `to` on, and answers the place after it.
 pub fn write_handover(
     family: u64,
-    answer: FamilyAnswer,
+    answer: Answer,
     listed: &[u32],
     reasons: &[u8],
     output: &mut [u8],
@@ -109,17 +114,9 @@ pub fn write_handover(
     ensures stored { Stored (handover_text family answer listed.now reasons.now) output.old to output.new result }
     ensures upper_bound { result ≤ to + 37966 }
 {
-    let ending = answer.ending;
-    if ending.kind == CALLED {
+    if let Ending::Called(_) = answer.ending {
         return to;
     }
-    let at_records = write_ended(family, ending, output, to);
-    write_rejections(
-        family,
-        answer.listed as usize,
-        listed,
-        reasons,
-        output,
-        at_records,
-    )
+    let at_records = write_ended(family, answer.ending, output, to);
+    write_rejections(family, answer.listed, listed, reasons, output, at_records)
 }

@@ -7,11 +7,12 @@ use crate::handover::write_reason;
 use answer_text::line::{end_line, write_field, write_fields, write_line, write_words};
 use codec_stats::ledger::Ledger;
 use codec_stats::rates::{LedgerRates, rates};
+use codec_stats::refusals::LedgerRefusal;
 
 // Room for the sheet: 624 bytes for the fates, 183 for the duplexes, and 106 for the rates.
 pub const SHEET_BYTES: usize = 913;
 
-fn write_reason_count(reason: u32, count: u64, output: &mut [u8], to: usize) -> usize
+fn write_reason_count(reason: u8, count: u64, output: &mut [u8], to: usize) -> usize
     requires { to + 47 ≤ length output.old }
     ensures stored { Stored (reason_text reason count) output.old to output.new result }
     ensures upper_bound { result ≤ to + 47 }
@@ -28,10 +29,8 @@ fn write_reason_counts(counts: [u64; 10], output: &mut [u8], to: usize) -> usize
     ensures upper_bound { result ≤ to + 470 }
 {
     let mut end = to;
-    let mut i = 0;
-    while i < 10 {
-        end = write_reason_count(i as u32 + 1, counts[i], output, end);
-        i += 1;
+    for i in 0..10 {
+        end = write_reason_count(i as u8 + 1, counts[i], output, end);
     }
     end
 }
@@ -90,6 +89,7 @@ fn write_fraction(millionths: u64, output: &mut [u8], to: usize) -> usize
     ensures stored { Stored (fraction_text millionths) output.old to output.new result }
     ensures upper_bound { result ≤ to + 28 }
 {
+    // A call for each power: of the powers in an array a closure would not know that none is 0.
     let places = [
         b'.',
         digit_at(100000, millionths),
@@ -103,25 +103,27 @@ fn write_fraction(millionths: u64, output: &mut [u8], to: usize) -> usize
     write_words(&places, output, at_point)
 }
 
-fn write_rates(found: LedgerRates, output: &mut [u8], to: usize) -> usize
+fn write_rates(found: Result<LedgerRates, LedgerRefusal>, output: &mut [u8], to: usize) -> usize
     requires { to + 106 ≤ length output.old }
     ensures stored { Stored (rates_text found) output.old to output.new result }
     ensures upper_bound { result ≤ to + 106 }
 {
     match found {
-        LedgerRates::Rates {
-            filtered,
-            rate: _,
-            millionths,
-        } => {
-            let at_rate = write_line(b"filtered:", &[filtered], output, to);
+        Ok(rates) => {
+            let at_rate = write_line(b"filtered:", &[rates.filtered], output, to);
             let at_fraction = write_words(b"rate:", output, at_rate);
-            let end = write_fraction(millionths, output, at_fraction);
+            let end = write_fraction(rates.millionths, output, at_fraction);
             let at_millionths = end_line(output, end);
-            write_line(b"rate in millionths:", &[millionths], output, at_millionths)
+            write_line(
+                b"rate in millionths:",
+                &[rates.millionths],
+                output,
+                at_millionths,
+            )
         }
-        LedgerRates::Refused(number, given) => {
-            write_line(b"refused:", &[number as u64, given as u64], output, to)
+        Err(refusal) => {
+            let number = refusal.number();
+            write_line(b"refused:", &[u64::from(number), 0], output, to)
         }
     }
 }

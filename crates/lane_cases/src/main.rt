@@ -1,70 +1,57 @@
 // Stored lists of a dispatcher's calls, one line for each call: its answer, and the dispatcher that it leaves.
 #![tactic(auto)]
 
-mod show;
-mod text;
-
-ghost use Rattle.std.specs.Prelude.{◌≤◌, length};
-
-use codec_dispatch::dispatch::{Dispatcher, add, fresh, turn};
-use show::{put, show_dispatcher, show_outcome};
+use codec_dispatch::dispatch::{Dispatcher, LaneRefusal};
 use std::io;
-use std::io::Read;
-use text::{first_of, number_in};
 
-// Room for the lists that are stored.
-const TEXT_BYTES: usize = 4096;
-
-// LAST and EACH make a dispatcher that a host may hand in: the lane served last, or each of the counts.
-fn run_line(rt: &impl Print, line: &[u8], dispatcher: Dispatcher) -> io::Result<Dispatcher> {
-    let n = number_in(line);
-    let waiting = dispatcher.waiting;
-    match first_of(line) {
-        b'A' => show_outcome(rt, add(dispatcher, n)),
-        b'T' => show_outcome(rt, turn(dispatcher)),
-        b'F' => show_dispatcher(rt, fresh()),
-        b'L' => show_dispatcher(rt, Dispatcher { waiting, last: n }),
-        b'E' => show_dispatcher(
-            rt,
-            Dispatcher {
-                waiting: [(n % 65536) as u16; 8],
-                last: dispatcher.last,
-            },
-        ),
-        _ => Ok(dispatcher),
+fn show_added(rt: &impl Print, added: Result<(), LaneRefusal>) -> io::Result<()> {
+    match added {
+        Ok(()) => print!(rt; ": added"),
+        Err(why) => print!(rt; ": {why}"),
     }
 }
 
-// Where the line that begins at `at` ends: at the next line feed, or at the end of the text.
-fn line_end(text: &[u8], at: usize) -> usize
-    requires { at ≤ length text.now }
-    ensures { (at ≤ result) × (result ≤ length text.now) }
-{
-    let mut end = at;
-    while end < text.len() {
-        if text[end] == b'\n' {
-            return end;
-        }
-        end += 1;
+fn show_turn(rt: &impl Print, turn: Result<Option<u32>, LaneRefusal>) -> io::Result<()> {
+    match turn {
+        Ok(Some(lane)) => print!(rt; ": lane {lane}"),
+        Ok(None) => print!(rt; ": idle"),
+        Err(why) => print!(rt; ": {why}"),
     }
-    end
 }
 
-fn run(rt: &impl Print, text: &[u8]) -> io::Result<()> {
-    let mut dispatcher = fresh();
-    let mut at = 0;
-    while at < text.len() {
-        let end = line_end(text, at);
-        put(rt, &text[at..end])?;
-        dispatcher = run_line(rt, &text[at..end], dispatcher)?;
-        put(rt, b"\n")?;
-        at = end + 1;
+fn show_dispatcher(rt: &impl Print, dispatcher: &Dispatcher) -> io::Result<()> {
+    print!(rt; ": last {} waiting", dispatcher.last)?;
+    for count in dispatcher.waiting {
+        print!(rt; " {count}")?;
     }
     Ok(())
 }
 
+// A line is a word, and a number or none. LAST and EACH make a dispatcher that a host may hand in: the lane served last, or
+// each of the counts.
+fn run_line(rt: &impl Print, line: &str, dispatcher: &mut Dispatcher) -> io::Result<()> {
+    let (word, n) = match line.split_once(' ') {
+        Some((word, digits)) => (word, digits.parse::<u32>().unwrap_or(0)),
+        None => (line, 0),
+    };
+    match word {
+        "ADD" => show_added(rt, dispatcher.add(n))?,
+        "TURN" => show_turn(rt, dispatcher.turn())?,
+        "FRESH" => *dispatcher = Dispatcher::default(),
+        "LAST" => dispatcher.last = n,
+        "EACH" => dispatcher.waiting = [(n % 65536) as u16; 8],
+        _ => return Ok(()),
+    }
+    show_dispatcher(rt, dispatcher)
+}
+
 fn main(rt: HostRuntime) -> io::Result<()> {
-    let mut text = Vec::new(rt.alloc());
-    let size = rt.reader().take(TEXT_BYTES as u64).read_to_end(&mut text)?;
-    run(&rt, &text[..size])
+    let text = io::read_to_string(rt.alloc(), rt.reader())?;
+    let mut dispatcher = Dispatcher::default();
+    for line in text.lines() {
+        print!(rt; "{line}")?;
+        run_line(&rt, line, &mut dispatcher)?;
+        println!(rt; "")?;
+    }
+    Ok(())
 }

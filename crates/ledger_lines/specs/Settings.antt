@@ -1,12 +1,12 @@
 -- Document 02, Req 01: lines in front of a family. `G` and 20 numbers: 'from here on the ledger holds these figures'; `GS SAMPLE` and 20 numbers
 -- set that sample's ledger; `N SAMPLE` names the sample of the families after it.
-use Rattle.std.specs.Prelude.{true, false, cond, List, [], ◌∷◌, ℕ, ◌+◌, ◌*◌, replicate}
+use Rattle.std.specs.Prelude.{true, false, cond, List, [], ◌∷◌, ℕ, ◌+◌, ◌*◌, replicate, Some, None}
 use Prim.Native.Char.{code}
 use Rattle.std.proofs.lemmas.List.Edits.{sets}
 use Rattle.lists.specs.Tabulate.{tabulate}
+use Rattle.codec_stats.specs.Counts.{counts_of}
 use Rattle.codec_stats.specs.Ledger.{Counts, fresh}
-use Rattle.sample_ledgers.specs.Samples.{counts_of}
-use Rattle.table_text.specs.Fields.{Read, read, malformed, number_field, fields_of}
+use Rattle.table_text.specs.Fields.{Read, number_field, fields_of}
 use Rattle.line_text.specs.Line.{tag_field, pair_field, any, values_of, values_placed, number_at}
 use Rattle.line_text.specs.declared.line.Values.{Values}
 use Rattle.line_text.specs.declared.value.Value.{Value}
@@ -61,19 +61,19 @@ sample_set h s figures =
 
 -- SAMPLE is 0 to 95: another has no ledger
 abbrev pub sample_read : Handed → Read ℕ → Setting
-sample_read h (read s figures) = sample_set h s (figures_of figures)
-sample_read h malformed = not_set h
+sample_read h (Some (s, figures)) = sample_set h s (figures_of figures)
+sample_read h None = not_set h
 
 -- `N SAMPLE`: one number of 32 bits, and nothing after it
 abbrev pub name_read : Handed → Read ℕ → Setting
-name_read h (read s []) = record { told = Set; handed = record { ledger = h.ledger; samples = h.samples; sample = s; named = true } }
-name_read h (read s (field ∷ more)) = not_set h
-name_read h malformed = not_set h
+name_read h (Some (s, [])) = record { told = Set; handed = record { ledger = h.ledger; samples = h.samples; sample = s; named = true } }
+name_read h (Some (s, field ∷ more)) = not_set h
+name_read h None = not_set h
 
 -- what a line says where it has a tag, and what it says where it has another
 abbrev pub where_tagged : Read ℕ → (List (List ℕ) → Setting) → Setting → Setting
-where_tagged (read tag fields) says others = says fields
-where_tagged malformed says others = others
+where_tagged (Some (tag, fields)) says others = says fields
+where_tagged None says others = others
 
 -- what a line in front of a family says
 unfoldable pub setting_of : Handed → List ℕ → Setting

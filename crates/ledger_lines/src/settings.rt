@@ -10,7 +10,6 @@ use line_text::line::{Tag, Values};
 use line_text::value::Value;
 use sample_ledgers::samples::store_sample;
 use table_text::fields;
-use table_text::fields::NumberField;
 
 // What a family is handed: the run's ledger, the samples', the number of its sample, and whether a line has named one.
 #[derive(Clone, Copy)]
@@ -106,7 +105,7 @@ fn set_run(line: &[u8], at: usize, handed: Handed) -> Setting
 fn set_sample(line: &[u8], at: usize, handed: Handed) -> Setting
     ensures { result ≡ sample_read handed (number_field 95 (fields_from line.now at)) }
 {
-    let NumberField::Value(sample, next) = fields::read_number(line, at, 95) else {
+    let Some((sample, next)) = fields::read_number(line, at, 95) else {
         return malformed(handed);
     };
     let figures = figures_at(line, next);
@@ -131,7 +130,7 @@ fn set_sample(line: &[u8], at: usize, handed: Handed) -> Setting
 fn name_sample(line: &[u8], at: usize, handed: Handed) -> Setting
     ensures { result ≡ name_read handed (number_field 4294967295 (fields_from line.now at)) }
 {
-    let NumberField::Value(sample, next) = fields::read_number(line, at, 4294967295) else {
+    let Some((sample, next)) = fields::read_number(line, at, 4294967295) else {
         return malformed(handed);
     };
     if next <= line.len() {

@@ -1,7 +1,7 @@
 -- The text form: `B BASES`, the bases as text; `B` alone for a strand of no bases.
-use Rattle.std.specs.Prelude.{cond, ◌&&◌, List, [], ◌∷◌, ℕ, ◌+◌, ◌-◌, ◌≤◌, leb, length, take, drop}
+use Rattle.std.specs.Prelude.{cond, ◌&&◌, List, [], ◌∷◌, ℕ, ◌+◌, ◌-◌, ◌≤◌, leb, length, take, drop, Some, None}
 use Prim.Native.Char.{code}
-use Rattle.table_text.specs.Fields.{Read, read, malformed, fields_of}
+use Rattle.table_text.specs.Fields.{Read, fields_of}
 use Rattle.line_text.specs.Line.{tag_field}
 use Rattle.line_text.specs.Parsed.{Parsed, parsed, unparsed}
 use Rattle.line_text.specs.declared.bases.Bases.{Bases}
@@ -14,8 +14,8 @@ bases_of (field ∷ []) = cond (leb 1 (length field) && leb (length field) 1100)
 bases_of (field ∷ other ∷ more) = unparsed
 
 abbrev pub bases_after : Read ℕ → Parsed (List ℕ)
-bases_after (read tag fields) = bases_of fields
-bases_after malformed = unparsed
+bases_after (Some (tag, fields)) = bases_of fields
+bases_after None = unparsed
 
 -- a line of bases
 unfoldable pub bases_line : List ℕ → Parsed (List ℕ)

@@ -1,19 +1,17 @@
 -- The text form: `O W W ..` and a strand's `Q q q ..`, `D d d ..`, `E e e ..`; just the tag for none.
-use Rattle.std.specs.Prelude.{cond, List, [], ◌∷◌, ◌≡◌, ℕ, ◌-◌, ◌≤◌, ltb, eqb, length, take}
+use Rattle.std.specs.Prelude.{cond, List, [], ◌∷◌, ◌≡◌, ℕ, ◌-◌, ◌≤◌, ltb, eqb, length, take, Option, Some, None}
 use Prim.Native.Char.{code}
 use Rattle.table_text.specs.Decimal.{number}
-use Rattle.table_text.specs.Fields.{Read, read, malformed, fields_of}
-use Rattle.table_text.specs.declared.decimal.Number.{Number}
-use Rattle.table_text.specs.declared.decimal.Number.TheVariants as numbers
+use Rattle.table_text.specs.Fields.{Read, fields_of}
 use Rattle.line_text.specs.Line.{tag_field}
 use Rattle.line_text.specs.Parsed.{Parsed, parsed, unparsed, after}
 use Rattle.line_text.specs.declared.numbers.Numbers.{Numbers}
 use Rattle.line_text.specs.declared.numbers.Numbers.TheVariants.{Count, Malformed}
 
 -- a number in front of others
-abbrev pub number_then : Number → Parsed (List ℕ) → Parsed (List ℕ)
-number_then (numbers.Value v) more = after (v ∷ []) more
-number_then numbers.Malformed more = unparsed
+abbrev pub number_then : Option ℕ → Parsed (List ℕ) → Parsed (List ℕ)
+number_then (Some v) more = after (v ∷ []) more
+number_then None more = unparsed
 
 -- at most room fields, each a number up to the limit
 unfoldable pub numbers_of : ℕ → ℕ → List (List ℕ) → Parsed (List ℕ)
@@ -22,8 +20,8 @@ numbers_of room limit (field ∷ fields) = cond (ltb 0 room) (number_then (numbe
 
 -- the same of what stands after a tag
 abbrev pub numbers_after : ℕ → ℕ → Read ℕ → Parsed (List ℕ)
-numbers_after limit room (read tag fields) = numbers_of room limit fields
-numbers_after limit room malformed = unparsed
+numbers_after limit room (Some (tag, fields)) = numbers_of room limit fields
+numbers_after limit room None = unparsed
 
 -- a line with this tag and at most room numbers
 unfoldable pub numbers_line : ℕ → ℕ → ℕ → List ℕ → Parsed (List ℕ)

@@ -1,10 +1,8 @@
 -- The text form: numbers are decimals without leading zeros; a signed number may begin with `-`; a lone `-` means none.
-use Rattle.std.specs.Prelude.{true, false, cond, ◌&&◌, List, [], ◌∷◌, ℕ, ◌+◌, leb, eqb}
+use Rattle.std.specs.Prelude.{true, false, cond, ◌&&◌, List, [], ◌∷◌, ℕ, ◌+◌, leb, eqb, Option, Some, None}
 use Prim.Native.Char.{code}
 use Rattle.table_text.specs.Decimal.{number}
-use Rattle.table_text.specs.Fields.{Read, read, malformed, fields_from}
-use Rattle.table_text.specs.declared.decimal.Number.{Number}
-use Rattle.table_text.specs.declared.decimal.Number.TheVariants as numbers
+use Rattle.table_text.specs.Fields.{Read, fields_from}
 use Rattle.line_text.specs.declared.value.Value.{Value}
 use Rattle.line_text.specs.declared.value.FieldValue.{FieldValue}
 use Rattle.line_text.specs.declared.value.FieldValue.TheVariants.{Found, Malformed}
@@ -16,14 +14,14 @@ abbrev pub none : Value
 none = record { present = false; negative = false; magnitude = 0 }
 
 -- a number from 0 on
-abbrev pub plainly : Number → FieldValue
-plainly (numbers.Value v) = Found (record { present = true; negative = false; magnitude = v })
-plainly numbers.Malformed = Malformed
+abbrev pub plainly : Option ℕ → FieldValue
+plainly (Some v) = Found (record { present = true; negative = false; magnitude = v })
+plainly None = Malformed
 
 -- a number below 0: from -1 down to one beyond the limit
-abbrev pub negated : ℕ → Number → FieldValue
-negated limit (numbers.Value v) = cond (leb 1 v && leb v (limit + 1)) (Found (record { present = true; negative = true; magnitude = v })) Malformed
-negated limit numbers.Malformed = Malformed
+abbrev pub negated : ℕ → Option ℕ → FieldValue
+negated limit (Some v) = cond (leb 1 v && leb v (limit + 1)) (Found (record { present = true; negative = true; magnitude = v })) Malformed
+negated limit None = Malformed
 
 -- its digits are those of a number of 64 bits
 unfoldable pub below : ℕ → List ℕ → FieldValue
@@ -41,15 +39,15 @@ field_value kind limit (b ∷ bs) = cond (eqb b (code "-")) (after_dash kind lim
 
 -- a field's value, with the fields after it
 abbrev pub value_then : FieldValue → List (List ℕ) → Read Value
-value_then (Found v) rest = read v rest
-value_then Malformed rest = malformed
+value_then (Found v) rest = Some (v, rest)
+value_then Malformed rest = None
 
 -- the value of the first of some fields
 unfoldable pub value_field : ℕ → ℕ → List (List ℕ) → Read Value
-value_field kind limit [] = malformed
+value_field kind limit [] = None
 value_field kind limit (field ∷ rest) = value_then (field_value kind limit field) rest
 
 -- an answer about a line, with the fields from its place on
 abbrev pub value_in : List ℕ → ValueField → Read Value
-value_in line (fields.Found v next) = read v (fields_from line next)
-value_in line fields.Malformed = malformed
+value_in line (fields.Found v next) = Some (v, fields_from line next)
+value_in line fields.Malformed = None

@@ -6,7 +6,6 @@ ghost use Rattle.line_text.specs.Numbers.{Filled, numbers_of, numbers_line};
 use crate::line;
 use crate::line::Tag;
 use table_text::fields;
-use table_text::fields::NumberField;
 
 #[derive(Drop)]
 pub enum Numbers {
@@ -25,7 +24,7 @@ fn read_column(line: &[u8], start: usize, limit: u64, room: usize, column: &mut 
         if room <= n {
             return Numbers::Malformed;
         }
-        let NumberField::Value(value, next) = fields::read_number(line, at, limit) else {
+        let Some((value, next)) = fields::read_number(line, at, limit) else {
             return Numbers::Malformed;
         };
         column[n] = value as u32;

@@ -3,7 +3,6 @@ ghost use Rattle.std.specs.Prelude.{◌≡◌};
 ghost use Rattle.table_text.specs.Fields.{fields_from};
 ghost use Rattle.line_text.specs.Value.{below, after_dash, field_value, value_field, value_in};
 
-use table_text::decimal::Number;
 use table_text::{decimal, parts};
 
 #[derive(Clone, Copy)]
@@ -30,7 +29,7 @@ pub enum ValueField {
 fn below_zero(field: &[u8], limit: u64) -> FieldValue
     ensures { result ≡ below limit field.now }
 {
-    let Number::Value(magnitude) = decimal::read_decimal(field, 18446744073709551615) else {
+    let Some(magnitude) = decimal::read_decimal(field, 18446744073709551615) else {
         return FieldValue::Malformed;
     };
     if magnitude == 0 {
@@ -77,7 +76,7 @@ fn read_value(field: &[u8], kind: u8, limit: u64) -> FieldValue
     if field[0] == b'-' {
         return after_dash(&field[1..], kind, limit);
     }
-    let Number::Value(magnitude) = decimal::read_decimal(field, limit) else {
+    let Some(magnitude) = decimal::read_decimal(field, limit) else {
         return FieldValue::Malformed;
     };
     FieldValue::Found(Value {

@@ -1,4 +1,3 @@
-pub mod Cases
 pub mod Count
 pub mod Counted
 pub mod Every

@@ -10,6 +10,7 @@ use native.Mathlib.Omega.{arith}
 use lib.ListN.{length, get_or}
 use Rattle.lists.specs.Count.{count_below}
 use Rattle.lists.specs.Numbers.{numbers_from}
+use Rattle.lists.proofs.Count.{count-suc}
 
 module _ (test : ℕ → Bool) where
   -- a number that meets the test, with those after it
@@ -31,11 +32,16 @@ module _ (test : ℕ → Bool) where
       let none : n - i ≡ 0 = omega arith in
       rw none
 
+  -- the first of the numbers, where it meets the test, and those after it
+  pub numbers_first : (i count : ℕ) → numbers_from test i (suc count) ≡ cond (test i) (i ∷ numbers_from test (suc i) count) (numbers_from test (suc i) count)
+  unfolding numbers_from
+  numbers_first i count = rw add-one
+
   -- a number of the list meets the test and is within the bounds
   pub numbers_at : (i count k : ℕ) → k < length (numbers_from test i count) → let x = get_or (numbers_from test i count) k 0 in (i ≤ x) × (x < i + count) × (test x ≡ true)
   unfolding numbers_from
   numbers_at i zero k h = absurd (not-suc-le-zero h)
-  numbers_at i (suc count) k h = go (test i) refl k h (numbers_at (suc i) count)
+  numbers_at i (suc count) k h = rw numbers_first (go (test i) refl k (rw numbers_first at h) (numbers_at (suc i) count))
     where
       rest : List ℕ
       rest = numbers_from test (suc i) count
@@ -49,7 +55,8 @@ module _ (test : ℕ → Bool) where
   pub numbers_has : (i count x : ℕ) → i ≤ x → x < i + count → test x ≡ true → (k : ℕ) × (k < length (numbers_from test i count)) × (get_or (numbers_from test i count) k 0 ≡ x)
   unfolding numbers_from
   numbers_has i zero x from below meets = absurd (omega arith)
-  numbers_has i (suc count) x from below meets = go (test i) refl (λ above. numbers_has (suc i) count x above (omega arith) meets) (eq-or-lt_of_le from)
+  numbers_has i (suc count) x from below meets =
+      rw numbers_first (go (test i) refl (λ above. numbers_has (suc i) count x above (omega arith) meets) (eq-or-lt_of_le from))
     where
       rest : List ℕ
       rest = numbers_from test (suc i) count
@@ -64,7 +71,7 @@ module _ (test : ℕ → Bool) where
   pub numbers_after : (i count a : ℕ) (rest : List ℕ) → numbers_from test i count ≡ a ∷ rest → rest ≡ numbers_from test (suc a) (i + count - suc a)
   unfolding numbers_from
   numbers_after i zero a rest e = let apart : ◌≡◌ {A = ℕ} 0 1 = cc in absurd (omega arith)
-  numbers_after i (suc count) a rest e = go (test i) e (numbers_after (suc i) count a rest)
+  numbers_after i (suc count) a rest e = go (test i) (rw numbers_first at e) (numbers_after (suc i) count a rest)
     where
       more : suc i + count ≡ i + suc count
       more = omega arith
@@ -80,13 +87,14 @@ module _ (test : ℕ → Bool) where
       go false e after = rw more at (after e)
 
   pub length_numbers : (i count : ℕ) → count_below test i + length (numbers_from test i count) ≡ count_below test (i + count)
-  unfolding numbers_from count_below
+  unfolding numbers_from
   length_numbers i zero = simp add-zero
-  length_numbers i (suc count) = go (test i) refl (length_numbers (suc i) count)
+  length_numbers i (suc count) = rw (numbers_first, ← more) (go (test i) refl (length_numbers (suc i) count))
     where
       more : suc i + count ≡ i + suc count
       more = omega arith
 
-      go : (b : Bool) → test i ≡ b → count_below test (suc i) + length (numbers_from test (suc i) count) ≡ count_below test (suc i + count) → count_below test i + length (cond b (i ∷ numbers_from test (suc i) count) (numbers_from test (suc i) count)) ≡ count_below test (i + suc count)
-      go true e later = let t = rw (more, e) at later in omega arith
-      go false e later = let t = rw (more, e) at later in omega arith
+      go : (b : Bool) → test i ≡ b → count_below test (suc i) + length (numbers_from test (suc i) count) ≡ count_below test (suc i + count)
+          → count_below test i + length (cond b (i ∷ numbers_from test (suc i) count) (numbers_from test (suc i) count)) ≡ count_below test (suc i + count)
+      go true e later = let here = rw e at (count-suc test i) in omega arith
+      go false e later = let here = rw e at (count-suc test i) in omega arith

@@ -5,8 +5,8 @@ use mathlib.Core.Path.{◌≡◌, sym, ◌∙◌}
 use Prim.Native.Nat.{ℕ, ◌+◌, ◌-◌, ◌≤◌, min}
 use native.Mathlib.Nat.{eq-zero-or-pos}
 use native.Mathlib.Omega.{arith}
-use lib.ListN.{length, take, drop, length-take, length-drop, drop_of_length-le}
-use lib.Seq.{take_all, take-nil}
+use lib.ListN.{length, take, drop, length-take, length-drop}
+use lib.Seq.{take_all}
 
 module _ {A : Type 0} (xs : List A) (start count : ℕ) where
   -- a part that ends with the list
@@ -20,17 +20,6 @@ module _ {A : Type 0} (xs : List A) (start count : ℕ) where
       let rest = length-drop start xs in
       take_all (min (start + count) (length xs) - start) (drop start xs) (omega arith) ∙ sym (take_all count (drop start xs) (omega arith)))
       (eq-zero-or-pos (start + count - length xs))
-
-  -- a start beyond the list gives the empty part, as its end does
-  pub part_clamped : take (min (min start (length xs) + count) (length xs) - min start (length xs)) (drop (min start (length xs)) xs) ≡ take count (drop start xs)
-  part_clamped =
-      ⊎_elim
-      (λ inside.
-      let same : min start (length xs) ≡ start = omega arith in
-      rw same (part_within (omega arith)))
-      (λ beyond.
-      rw (drop_of_length-le xs {i = min start (length xs)} (omega arith), drop_of_length-le xs {i = start} (omega arith), take-nil, take-nil))
-      (eq-zero-or-pos (start - length xs))
 
   pub length_part : length (take count (drop start xs)) ≤ length xs
   length_part = simp (length-take, length-drop) (omega arith)

@@ -2,13 +2,13 @@
 use mathlib.Core.List.{List, [], ◌∷◌, ◌++◌}
 use mathlib.Core.Logic.{⊎_elim}
 use mathlib.Core.Path.{◌≡◌, refl, sym, ◌∙◌, subst}
-use Prim.Native.Nat.{ℕ, zero, suc, ◌+◌, ◌<◌}
+use Prim.Native.Nat.{ℕ, zero, suc, ◌+◌, ◌≤◌, ◌<◌}
 use native.Mathlib.Decide.{ℕ_discrete}
 use native.Mathlib.Nat.{eq-or-lt_of_le, le_of_suc-le-suc, not-suc-le-zero}
 use native.Mathlib.Numerals.{add-one}
 use native.Mathlib.Omega.{arith}
-use lib.ListN.{length, get_or, set, length-append, length-set, get_or-append}
-use lib.Seq.{get_or_at, get_or-set_same, get_or-set_other, ext_get_or}
+use lib.ListN.{length, get_or, set, take, drop, length-append, length-drop, length-set, length-take, get_or-append}
+use lib.Seq.{get_or_at, get_or-set_same, get_or-set_other, get_or-take, get_or-drop, ext_get_or}
 use Rattle.lists.specs.Tabulate.{tabulate}
 use Rattle.lists.specs.Written.{written}
 use Rattle.lists.proofs.Written.{written_more, get_d-written_beyond}
@@ -48,6 +48,18 @@ pub tabulate_get_d : {A : Type 0} (xs : List A) (d : A) → tabulate (λ i. get_
 tabulate_get_d xs d =
     let same = length-tabulate (λ i. get_or xs i d) (length xs) in
     ext_get_or d (tabulate (λ i. get_or xs i d) (length xs)) xs same (λ i h. get_d_tabulate (λ k. get_or xs k d) (length xs) i d (rw same at h))
+
+-- a list of n elements, each of which is what the rule says of its place
+pub tabulate_by_all : {A : Type 0} (f : ℕ → A) (xs : List A) (n : ℕ) (d : A) → length xs ≡ n → ((k : ℕ) → k < n → get_or xs k d ≡ f k) → xs ≡ tabulate f n
+tabulate_by_all f xs n d e each =
+    ext_get_or d xs (tabulate f n) (e ∙ sym (length-tabulate f n)) (λ k h. let room : k < n = omega (arith, e) in each k room ∙ sym (get_d_tabulate f n k d room))
+
+-- a part of a list, each place of which is what the rule says
+pub tabulate-part : {A : Type 0} (f : ℕ → A) (xs : List A) (from n : ℕ) (d : A) → from + n ≤ length xs
+    → ((k : ℕ) → k < n → get_or xs (from + k) d ≡ f k)
+    → take n (drop from xs) ≡ tabulate f n
+tabulate-part f xs from n d fits each =
+    tabulate_by_all f (take n (drop from xs)) n d (simp (length-take, length-drop) (omega arith)) (λ k h. rw (get_or-take n (drop from xs) k d h, get_or-drop from xs k d) (each k h))
 
 -- a column that is written place by place, when every place is
 pub tabulate-all : {A : Type 0} (xs old : List A) (d : A) {col : List A} {i : ℕ} → i ≡ length xs

@@ -1,6 +1,6 @@
 -- Laws of a sum over a list.
 use mathlib.Core.Bool.{Bool, true, false, cond}
-use mathlib.Core.List.{List, [], ◌∷◌, ◌++◌, map, reverse, reverse-cons}
+use mathlib.Core.List.{List, [], ◌∷◌, ◌++◌, map}
 use mathlib.Core.Path.{◌≡◌, refl, sym, ◌∙◌, ap}
 use Prim.Native.Nat.{ℕ, zero, suc, ◌+◌, ◌≤◌, ◌<◌}
 use native.Mathlib.Numerals.{add-one}
@@ -8,7 +8,8 @@ use native.Mathlib.Omega.{arith}
 use lib.ListN.{length, take, get_or}
 use lib.Seq.{take-suc}
 use Rattle.lists.specs.Tabulate.{tabulate}
-use Rattle.lists.specs.Those.{those}
+use Rattle.std.specs.List.{filter, sum_by}
+use Rattle.std.proofs.lemmas.List.Recursion.{is_sum_by}
 use Rattle.lists.specs.Total.{total}
 use Rattle.lists.proofs.Tabulate.{tabulate_get_d}
 
@@ -23,11 +24,6 @@ module _ {A : Type 0} (f : A → ℕ) where
   unfolding total
   total_more xs i d h = rw (add-one, take-suc xs i d, total-append) (omega arith)
 
-  pub total-reverse : (xs : List A) → total f (reverse xs) ≡ total f xs
-  unfolding total
-  total-reverse [] = refl
-  total-reverse (x ∷ xs) = rw (reverse-cons x xs, total-append, total-reverse xs) (omega arith)
-
   -- at most one for each element
   pub total_few : (xs : List A) → ((x : A) → f x ≤ 1) → total f xs ≤ length xs
   unfolding total
@@ -35,14 +31,19 @@ module _ {A : Type 0} (f : A → ℕ) where
   total_few (x ∷ xs) few = omega (arith, few x, total_few xs few)
 
   -- a sum over those that meet a test
-  pub total-those : (test : A → Bool) (xs : List A) → total f (those test xs) ≡ total (λ x. cond (test x) (f x) 0) xs
-  unfolding total those
-  total-those test [] = refl
-  total-those test (x ∷ xs) = go (test x) (total-those test xs)
+  pub total-filter : (test : A → Bool) (xs : List A) → total f (filter test xs) ≡ total (λ x. cond (test x) (f x) 0) xs
+  unfolding total
+  total-filter test [] = refl
+  total-filter test (x ∷ xs) = go (test x) (total-filter test xs)
     where
-      go : (b : Bool) → total f (those test xs) ≡ total (λ y. cond (test y) (f y) 0) xs → total f (cond b (x ∷ those test xs) (those test xs)) ≡ cond b (f x) 0 + total (λ y. cond (test y) (f y) 0) xs
+      go : (b : Bool) → total f (filter test xs) ≡ total (λ y. cond (test y) (f y) 0) xs → total f (cond b (x ∷ filter test xs) (filter test xs)) ≡ cond b (f x) 0 + total (λ y. cond (test y) (f y) 0) xs
       go true e = omega arith
       go false e = omega arith
+
+-- a chain's sum is a fold from the front
+pub total_is_sum_by : {A : Type 0} (f : A → ℕ) (xs : List A) → total f xs ≡ sum_by f xs
+unfolding total
+total_is_sum_by f xs = is_sum_by (total f) f refl (λ x rest. refl) xs
 
 pub total_ones : {A : Type 0} (xs : List A) → total (λ x. 1) xs ≡ length xs
 unfolding total

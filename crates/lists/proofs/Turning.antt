@@ -6,8 +6,8 @@ use native.Mathlib.Decide.{ℕ_discrete, dec_lt}
 use native.Mathlib.Omega.{arith}
 use lib.ListN.{length, get_or, set, take, drop, length-set, length-reverse, get_or-append}
 use lib.Seq.{get_or-set_same, get_or-set_other, get_or-take, ext_get_or, length-take-le}
+use Rattle.std.proofs.lemmas.List.{get_or-reverse}
 use Rattle.lists.specs.Written.{written}
-use Rattle.lists.proofs.Reverse.{get_d_reverse}
 use Rattle.lists.proofs.Written.{length-written, get_d-written_beyond}
 
 pub record Turning {A : Type 0} (d : A) (old : List A) (n i : ℕ) (col : List A) : Type 0 where
@@ -78,7 +78,7 @@ module _ {A : Type 0} (d : A) (old : List A) (n : ℕ) where
       mirrored : (k : ℕ) → k < n → get_or (written (reverse (take n old)) old) k d ≡ get_or old (n - 1 - k) d
       mirrored k h =
           get_or-append (reverse (take n old)) (drop (length (reverse (take n old))) old) d k (rw size h)
-          ∙ get_d_reverse (take n old) k d (rw (length-take-le n old room) h)
+          ∙ get_or-reverse (take n old) k d (rw (length-take-le n old room) h)
           ∙ rw (length-take-le n old room) (get_or-take n old (n - 1 - k) d (omega arith))
 
       turned : (k : ℕ) → k < n → Dec (k < i) → Dec (k + i < n) → get_or col k d ≡ get_or old (n - 1 - k) d

@@ -1,6 +1,6 @@
 -- Whether a number is in a list.
-use Rattle.std.specs.Prelude.{Bool, true, false, cond, List, [], ◌∷◌, ℕ, eqb}
+use Rattle.std.specs.Prelude.{Bool, List, ℕ, eqb}
+use Rattle.std.specs.List.{list_any}
 
 unfoldable pub is_in : ℕ → List ℕ → Bool
-is_in i [] = false
-is_in i (j ∷ js) = cond (eqb i j) true (is_in i js)
+is_in i js = list_any (λ j. eqb i j) js

@@ -1,7 +1,7 @@
 -- A list from a rule for each of its places.
 use Rattle.std.specs.Prelude.{List, [], ◌∷◌, ◌++◌, ℕ, zero, suc}
 
--- f 0, f 1, .. f (n - 1)
+-- f 0, f 1, .. f (n - 1), from the end: a loop writes one more
 unfoldable pub tabulate : {A : Type 0} → (ℕ → A) → ℕ → List A
 tabulate f zero = []
 tabulate f (suc n) = tabulate f n ++ (f n ∷ [])

@@ -1,2 +1,2 @@
-// Definitions and laws on lists that every layer cites: specs/ and proofs/. There is no code.
+// Definitions and laws on lists that every layer cites, where std has none: specs/ and proofs/. There is no code.
 #![tactic(auto)]

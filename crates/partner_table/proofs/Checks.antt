@@ -1,19 +1,18 @@
 -- What is answered of two tables, by the first malformed line of each.
-use mathlib.Core.List.{List}
-use mathlib.Core.Path.{◌≡◌}
-use Prim.Native.Nat.{ℕ}
+use Rattle.std.proofs.Common.{◌≡◌, ℕ, List, Err}
 use Rattle.table_text.specs.InputTable.{table_of}
 use Rattle.table_text.specs.OutputReading.{partner_table}
-use Rattle.table_text.specs.declared.reading.Checked.TheVariants as table
+use Rattle.table_text.specs.declared.reading.Malformed.{Malformed}
 use Rattle.partner_table.specs.Check.{checked, compared, WellFormed}
-use Rattle.partner_table.specs.declared.compare.Answer.TheVariants.{Refused}
+use Rattle.partner_table.specs.declared.fault.Fault.TheVariants as faults
+use Rattle.partner_table.specs.declared.fault.Whose.TheVariants.{Ours, Theirs}
 
-module _ (ours theirs : List ℕ) (line : ℕ) where
-  pub ours_malformed : (table_of ours).ending ≡ table.Malformed line → Refused 27 line 1 ≡ checked ours theirs
+module _ (ours theirs : List ℕ) (malformed : Malformed) where
+  pub ours_malformed : (table_of ours).ending ≡ Err malformed → Err (faults.Malformed Ours malformed.line) ≡ checked ours theirs
   unfolding checked
   ours_malformed e = rw e
 
-  pub theirs_malformed : WellFormed (table_of ours) → (partner_table theirs).ending ≡ table.Malformed line → Refused 27 line 2 ≡ checked ours theirs
+  pub theirs_malformed : WellFormed (table_of ours) → (partner_table theirs).ending ≡ Err malformed → Err (faults.Malformed Theirs malformed.line) ≡ checked ours theirs
   unfolding checked
   theirs_malformed formed e = rw (formed, e)
 

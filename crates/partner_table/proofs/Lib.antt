@@ -3,7 +3,6 @@ pub mod Checks
 pub mod Digits
 pub mod Exactly
 pub mod InRange
-pub mod Instance
 pub mod Lines
 pub mod LowerN
 pub mod OneText

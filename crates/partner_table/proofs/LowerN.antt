@@ -5,14 +5,15 @@ use Prim.Native.Nat.{ℕ}
 use native.Mathlib.Omega.{arith}
 use borrow.Author.Tests.{eqb-false, ne_eqb, not-true}
 use lib.Dec.{eqb, ltb}
+use Rattle.std.proofs.lemmas.Bool.{and_parts}
+use Rattle.std.specs.Prelude.{Some}
 use Rattle.codec_duplex.specs.Position.{has_data, both_called, low_masked, by_data, combined}
 use Rattle.codec_duplex.specs.declared.position.Position.{Position}
-use Rattle.lists.proofs.Cases.{and_both}
 use Rattle.partner_table.specs.Check.{first_wrong_field}
-use Rattle.partner_table.specs.declared.compare.Fault.TheVariants.{Field}
+use Rattle.partner_table.specs.declared.fault.Field.TheVariants.{Base}
 
 data_not : (base : ℕ) → has_data base ≡ true → base ≡ 110 → ⊥
-data_not base h e = eqb-false base 110 (not-true (eqb base 110) (and_both (not (eqb base 78)) (not (eqb base 110)) h).1) e
+data_not base h e = eqb-false base 110 (not-true (eqb base 110) (and_parts (not (eqb base 78)) (not (eqb base 110)) h).1) e
 
 pick_not : (t : Bool) (a b : ℕ) → (a ≡ 110 → ⊥) → (b ≡ 110 → ⊥) → cond t a b ≡ 110 → ⊥
 pick_not true a b h k = h
@@ -41,7 +42,7 @@ never_lower a b =
     pick_not (eqb a.base 78 || eqb b.base 78) 78 (by_data (has_data a.base) (has_data b.base) a b).base upper
     (by_data_not (has_data a.base) (has_data b.base) a b refl refl)
 
--- so n is wrong in field 1
-pub lower_wrong : (a b given : Position) → given.base ≡ 110 → first_wrong_field (combined a b) given ≡ Field 1
+-- so n is a wrong base
+pub lower_wrong : (a b given : Position) → given.base ≡ 110 → first_wrong_field (combined a b) given ≡ Some Base
 unfolding first_wrong_field
 lower_wrong a b given e = rw (ne_eqb (combined a b).base given.base (λ same. never_lower a b (same ∙ e)))

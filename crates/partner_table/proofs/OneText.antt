@@ -7,27 +7,24 @@ use native.Mathlib.Omega.{arith}
 use borrow.Author.Tests.{eqb-true}
 use lib.Dec.{leb, eqb}
 use lib.ListN.{length, get_or, length-map}
+use Rattle.std.proofs.lemmas.Bool.{and_parts}
+use Rattle.std.proofs.lemmas.List.{get_or-map}
+use Rattle.std.specs.Prelude.{Option, Some, None, Ok}
 use Rattle.codec_duplex.specs.Position.{combined}
 use Rattle.codec_duplex.specs.declared.position.Position.{Position}
-use Rattle.lists.proofs.Cases.{and_both}
-use Rattle.lists.proofs.Map.{get_d-map-within}
 use Rattle.table_text.specs.Decimal.{number, decimal}
 use Rattle.table_text.specs.Duplex.{standard_output}
-use Rattle.table_text.specs.Fields.{Read, read, is_base, value_of, listed, fields_of, base_field, number_field}
-use Rattle.table_text.specs.Fields as fields
+use Rattle.table_text.specs.Fields.{Read, is_base, value_of, listed, fields_of, base_field, number_field}
 use Rattle.table_text.specs.InputTable.{table_of}
 use Rattle.table_text.specs.Reading.{same_bytes}
 use Rattle.table_text.specs.OutputTable.{position_text, rows_text, output_table}
 use Rattle.table_text.specs.Parts.{Parts, last, ended, in_front, parts}
-use Rattle.table_text.specs.Rows.{position_fields}
-use Rattle.table_text.specs.declared.decimal.Number.{Number}
-use Rattle.table_text.specs.declared.decimal.Number.TheVariants as numbers
-use Rattle.table_text.specs.declared.reading.Checked.TheVariants as table
+use Rattle.table_text.specs.Rows.{position_fields, position_line, alone}
 use Rattle.partner_table.specs.Check.{combined_rows, checked}
-use Rattle.partner_table.specs.declared.compare.Answer.TheVariants.{Accepted}
-use Rattle.table_text.specs.OutputReading.{partner_names, only_position, position_line, partner_table}
+use Rattle.table_text.specs.OutputReading.{partner_names, partner_table}
 use Rattle.partner_table.specs.Promises.{no_position, right_at, given_at, SameFields, Right}
-use Rattle.table_text.specs.Reading.{Line, row, malformed, Table, malformed_at, line_then, lines_from, after_names, read_table}
+use Rattle.table_text.specs.Reading.{Table, malformed_at, line_then, lines_from, after_names, read_table}
+use Rattle.table_text.proofs.FieldLists.{same-read}
 use Rattle.partner_table.proofs.Exactly.{accepted_right}
 use Rattle.partner_table.proofs.OwnTable.{then_read, position, written_table}
 use Rattle.partner_table.proofs.ReadBack.{line_text, position-joined}
@@ -71,24 +68,24 @@ spaced-listed (ended part (ended next more)) = ap (λ (xs : List ℕ). part ++ (
 line_fields : (line : List ℕ) → line ≡ spaced (fields_of line)
 line_fields line = sym (spaced-listed (parts 32 line) ∙ joined-parts 32 line)
 
-base_once : (given : List (List ℕ)) (b : ℕ) (rest : List (List ℕ)) → base_field given ≡ read b rest → given ≡ (b ∷ []) ∷ rest
+base_once : (given : List (List ℕ)) (b : ℕ) (rest : List (List ℕ)) → base_field given ≡ Some (b, rest) → given ≡ (b ∷ []) ∷ rest
 unfolding base_field
-base_once [] b rest e = let z : ◌≡◌ {A = ℕ} 0 1 = cc in absurd (omega arith)
-base_once ([] ∷ more) b rest e = let z : ◌≡◌ {A = ℕ} 0 1 = cc in absurd (omega arith)
+base_once [] b rest e = absurd cc
+base_once ([] ∷ more) b rest e = absurd cc
 base_once ((x ∷ []) ∷ more) b rest e = go (is_base x) e
   where
-    go : (t : Bool) → cond t (read x more) fields.malformed ≡ read b rest → (x ∷ []) ∷ more ≡ (b ∷ []) ∷ rest
-    go true e = let one : x ≡ b = cc in let two : more ≡ rest = cc in rw (one, two)
-    go false e = let z : ◌≡◌ {A = ℕ} 0 1 = cc in absurd (omega arith)
-base_once ((x ∷ y ∷ xs) ∷ more) b rest e = let z : ◌≡◌ {A = ℕ} 0 1 = cc in absurd (omega arith)
+    go : (t : Bool) → ◌≡◌ {A = Read ℕ} (cond t (Some (x, more)) None) (Some (b, rest)) → (x ∷ []) ∷ more ≡ (b ∷ []) ∷ rest
+    go true e = let same = same-read e in rw (same.0, same.1)
+    go false e = absurd cc
+base_once ((x ∷ y ∷ xs) ∷ more) b rest e = absurd cc
 
-value_once : (n : Number) (v : ℕ) (after rest : List (List ℕ)) → value_of n after ≡ read v rest → (n ≡ numbers.Value v) × (after ≡ rest)
-value_once (numbers.Value x) v after rest e = (cc, cc)
-value_once numbers.Malformed v after rest e = let z : ◌≡◌ {A = ℕ} 0 1 = cc in absurd (omega arith)
+value_once : (n : Option ℕ) (v : ℕ) (after rest : List (List ℕ)) → value_of n after ≡ Some (v, rest) → (n ≡ Some v) × (after ≡ rest)
+value_once (Some x) v after rest e = let same = same-read e in (ap Some same.0, same.1)
+value_once None v after rest e = absurd cc
 
-field_once : (limit : ℕ) (given : List (List ℕ)) (v : ℕ) (rest : List (List ℕ)) → limit ≤ 65535 → number_field limit given ≡ read v rest → given ≡ decimal v ∷ rest
+field_once : (limit : ℕ) (given : List (List ℕ)) (v : ℕ) (rest : List (List ℕ)) → limit ≤ 65535 → number_field limit given ≡ Some (v, rest) → given ≡ decimal v ∷ rest
 unfolding number_field
-field_once limit [] v rest short e = let z : ◌≡◌ {A = ℕ} 0 1 = cc in absurd (omega arith)
+field_once limit [] v rest short e = absurd cc
 field_once limit (field ∷ after) v rest short e =
     let both = value_once (number limit field) v after rest e in
     let one : field ≡ decimal v = number_once limit field v short both.0 in
@@ -99,15 +96,16 @@ field_once limit (field ∷ after) v rest short e =
 abbrev four : Position → List (List ℕ) → List (List ℕ)
 four p rest = (p.base ∷ []) ∷ decimal p.quality ∷ decimal p.depth ∷ decimal p.error ∷ rest
 
-position_once : (given : List (List ℕ)) (p : Position) (rest : List (List ℕ)) → position_fields given ≡ read p rest → given ≡ four p rest
+position_once : (given : List (List ℕ)) (p : Position) (rest : List (List ℕ)) → position_fields given ≡ Some (p, rest) → given ≡ four p rest
 unfolding position_fields
 position_once given p rest e =
     let base = then_read (base_field given) _ p rest e in
     let quality = then_read (number_field 255 base.1) _ p rest base.3 in
     let depth = then_read (number_field 65535 quality.1) _ p rest quality.3 in
     let error = then_read (number_field 65535 depth.1) _ p rest depth.3 in
-    let found : position base.0 quality.0 depth.0 error.0 ≡ p = let whole = error.3 in cc in
-    let end : error.1 ≡ rest = let whole = error.3 in cc in
+    let whole = same-read error.3 in
+    let found : position base.0 quality.0 depth.0 error.0 ≡ p = whole.0 in
+    let end : error.1 ≡ rest = whole.1 in
     let b : given ≡ (base.0 ∷ []) ∷ base.1 = base_once given base.0 base.1 base.2 in
     let q : base.1 ≡ decimal quality.0 ∷ quality.1 = field_once 255 base.1 quality.0 quality.1 (omega arith) quality.2 in
     let d : quality.1 ≡ decimal depth.0 ∷ depth.1 = field_once 65535 quality.1 depth.0 depth.1 (omega arith) depth.2 in
@@ -120,16 +118,16 @@ unfolding spaced
 four-spaced p = refl
 
 -- a line that reads as a position is its text
-pub line_once : (line : List ℕ) (p : Position) → position_line line ≡ row p → line ≡ line_text p
+pub line_once : (line : List ℕ) (p : Position) → position_line line ≡ Some p → line ≡ line_text p
 unfolding position_line
 line_once line p e = go (position_fields (fields_of line)) refl e
   where
-    go : (r : Read Position) → position_fields (fields_of line) ≡ r → only_position r ≡ row p → line ≡ line_text p
-    go (read q []) f g =
+    go : (r : Read Position) → position_fields (fields_of line) ≡ r → alone r ≡ Some p → line ≡ line_text p
+    go (Some (q, [])) f g =
         let same : q ≡ p = cc in
         line_fields line ∙ (ap spaced (position_once (fields_of line) q [] f ∙ ap (λ (x : Position). four x []) same) ∙ four-spaced p)
-    go (read q (field ∷ more)) f g = let z : ◌≡◌ {A = ℕ} 0 1 = cc in absurd (omega arith)
-    go fields.malformed f g = let z : ◌≡◌ {A = ℕ} 0 1 = cc in absurd (omega arith)
+    go (Some (q, field ∷ more)) f g = absurd cc
+    go None f g = absurd cc
 
 -- the lines of positions
 positions_text : List Position → List ℕ
@@ -137,33 +135,33 @@ positions_text [] = []
 positions_text (p ∷ ps) = position_text p ++ positions_text ps
 
 module _ (line : ℕ) (text : List ℕ) (more : Table Position) (rest : List ℕ) where
-  line_joined : more.ending ≡ table.WellFormed → rest ≡ positions_text more.rows → (t : Line Position) → position_line text ≡ t → (line_then line t more).ending ≡ table.WellFormed
+  line_joined : more.ending ≡ Ok tt → rest ≡ positions_text more.rows → (t : Option Position) → position_line text ≡ t → (line_then line t more).ending ≡ Ok tt
       → text ++ (10 ∷ rest) ≡ positions_text (line_then line t more).rows
   unfolding positions_text
-  line_joined formed same (row p) is e =
+  line_joined formed same (Some p) is e =
       let one : text ≡ line_text p = line_once text p is in
       rw (one, same) (sym (position-joined p (positions_text more.rows)))
-  line_joined formed same malformed is e = let z : ◌≡◌ {A = ℕ} 0 1 = cc in absurd (omega arith)
+  line_joined formed same None is e = absurd cc
 
-  more_formed : (t : Line Position) → (line_then line t more).ending ≡ table.WellFormed → more.ending ≡ table.WellFormed
-  more_formed (row p) e = e
-  more_formed malformed e = let z : ◌≡◌ {A = ℕ} 0 1 = cc in absurd (omega arith)
+  more_formed : (t : Option Position) → (line_then line t more).ending ≡ Ok tt → more.ending ≡ Ok tt
+  more_formed (Some p) e = e
+  more_formed None e = absurd cc
 
-lines_once : (line : ℕ) (p : Parts) → (lines_from position_line line p).ending ≡ table.WellFormed → joined 10 p ≡ positions_text (lines_from position_line line p).rows
+lines_once : (line : ℕ) (p : Parts) → (lines_from position_line line p).ending ≡ Ok tt → joined 10 p ≡ positions_text (lines_from position_line line p).rows
 unfolding lines_from joined positions_text
 lines_once line (last []) e = refl
-lines_once line (last (b ∷ bs)) e = let z : ◌≡◌ {A = ℕ} 0 1 = cc in absurd (omega arith)
+lines_once line (last (b ∷ bs)) e = absurd cc
 lines_once line (ended text more) e = go (leb line 2049) (lines_once (line + 1) more) e
   where
     after : Table Position
     after = lines_from position_line (line + 1) more
 
-    go : (t : Bool) → (after.ending ≡ table.WellFormed → joined 10 more ≡ positions_text after.rows) → (cond t (line_then line (position_line text) after) (malformed_at line)).ending ≡ table.WellFormed
+    go : (t : Bool) → (after.ending ≡ Ok tt → joined 10 more ≡ positions_text after.rows) → (cond t (line_then line (position_line text) after) (malformed_at line)).ending ≡ Ok tt
         → text ++ (10 ∷ joined 10 more) ≡ positions_text (cond t (line_then line (position_line text) after) (malformed_at line)).rows
     go true same e =
-        let formed : after.ending ≡ table.WellFormed = more_formed line text after (joined 10 more) (position_line text) e in
+        let formed : after.ending ≡ Ok tt = more_formed line text after (joined 10 more) (position_line text) e in
         line_joined line text after (joined 10 more) formed (same formed) (position_line text) refl e
-    go false same e = let z : ◌≡◌ {A = ℕ} 0 1 = cc in absurd (omega arith)
+    go false same e = absurd cc
 
 same_once : (xs ys : List ℕ) → same_bytes xs ys ≡ true → xs ≡ ys
 unfolding same_bytes
@@ -171,24 +169,24 @@ same_once [] [] h = refl
 same_once [] (y ∷ ys) h = absurd (false≢true h)
 same_once (x ∷ xs) [] h = absurd (false≢true h)
 same_once (x ∷ xs) (y ∷ ys) h =
-    let both = and_both (eqb x y) (same_bytes xs ys) h in
+    let both = and_parts (eqb x y) (same_bytes xs ys) h in
     let one : x ≡ y = eqb-true x y both.0 in
     let two : xs ≡ ys = same_once xs ys both.1 in
     rw (one, two)
 
 -- a well-formed output table is the names and the lines of its positions
-table_once : (text : List ℕ) → (partner_table text).ending ≡ table.WellFormed → text ≡ partner_names ++ (10 ∷ positions_text (partner_table text).rows)
+table_once : (text : List ℕ) → (partner_table text).ending ≡ Ok tt → text ≡ partner_names ++ (10 ∷ positions_text (partner_table text).rows)
 unfolding read_table
 table_once text e = sym (joined-parts 10 text) ∙ go (parts 10 text) e
   where
-    pick : (names : List ℕ) (more : Parts) (t : Bool) → same_bytes names partner_names ≡ t → (cond t (lines_from position_line 2 more) (malformed_at 1)).ending ≡ table.WellFormed
+    pick : (names : List ℕ) (more : Parts) (t : Bool) → same_bytes names partner_names ≡ t → (cond t (lines_from position_line 2 more) (malformed_at 1)).ending ≡ Ok tt
         → names ++ (10 ∷ joined 10 more) ≡ partner_names ++ (10 ∷ positions_text (cond t (lines_from position_line 2 more) (malformed_at 1)).rows)
     pick names more true is e =
         ap (λ (xs : List ℕ). xs ++ (10 ∷ joined 10 more)) (same_once names partner_names is) ∙ ap (λ (xs : List ℕ). partner_names ++ (10 ∷ xs)) (lines_once 2 more e)
-    pick names more false is e = let z : ◌≡◌ {A = ℕ} 0 1 = cc in absurd (omega arith)
+    pick names more false is e = absurd cc
 
-    go : (p : Parts) → (after_names partner_names position_line p).ending ≡ table.WellFormed → joined 10 p ≡ partner_names ++ (10 ∷ positions_text (after_names partner_names position_line p).rows)
-    go (last names) e = let z : ◌≡◌ {A = ℕ} 0 1 = cc in absurd (omega arith)
+    go : (p : Parts) → (after_names partner_names position_line p).ending ≡ Ok tt → joined 10 p ≡ partner_names ++ (10 ∷ positions_text (after_names partner_names position_line p).rows)
+    go (last names) e = absurd cc
     go (ended names more) e = joined-ended names more ∙ pick names more (same_bytes names partner_names) refl e
 
 rows_text_lem : (rows : List (Position × Position)) → rows_text rows ≡ positions_text (combined_rows rows)
@@ -217,14 +215,14 @@ same_list (p ∷ ps) (q ∷ qs) h each =
     ap (λ (x : Position). x ∷ ps) one ∙ ap (λ (xs : List Position). q ∷ xs) two
 
 -- the accepted text is what duplex-table writes for the input
-pub accepted_once : (ours theirs : List ℕ) → checked ours theirs ≡ Accepted → theirs ≡ standard_output ours
+pub accepted_once : (ours theirs : List ℕ) → checked ours theirs ≡ Ok tt → theirs ≡ standard_output ours
 accepted_once ours theirs e =
     let right : Right ours theirs = accepted_right ours theirs e in
     let formed = right.comparable in
     let same : (partner_table theirs).rows ≡ combined_rows (table_of ours).rows =
     sym (same_list (combined_rows (table_of ours).rows) (partner_table theirs).rows (length-map (table_of ours).rows combine ∙ formed.lines) (λ k below.
     let inside : k < length (table_of ours).rows = omega (arith, length-map (table_of ours).rows combine, below) in
-    get_d-map-within combine (table_of ours).rows k (no_position, no_position) no_position inside ∙ same-position (right_at ours k) (given_at theirs k) (right.every_line k inside))) in
+    get_or-map combine (table_of ours).rows k (no_position, no_position) no_position inside ∙ same-position (right_at ours k) (given_at theirs k) (right.every_line k inside))) in
     table_once theirs formed.theirs_formed
     ∙ (ap (λ (ps : List Position). partner_names ++ (10 ∷ positions_text ps)) same ∙ (sym (output_text (table_of ours).rows) ∙ sym (written_table ours formed.ours_formed)))
   where

@@ -7,8 +7,9 @@ use native.Mathlib.Omega.{arith}
 use borrow.Author.Tests.{le-leb, leb-true, ne_eqb, not-true, eq-eqb}
 use lib.Dec.{leb, eqb}
 use lib.ListN.{length}
-use Rattle.lists.specs.Every.{every}
-use Rattle.lists.proofs.Cases.{and_both}
+use Rattle.std.specs.Prelude.{Some, Ok}
+use Rattle.std.specs.List.{list_all}
+use Rattle.std.proofs.lemmas.Bool.{and_parts}
 use Rattle.codec_duplex.specs.Position.{combined}
 use Rattle.codec_duplex.specs.declared.position.Position.{Position}
 use Rattle.table_text.specs.Decimal.{is_digit, decimal}
@@ -16,40 +17,39 @@ use Rattle.table_text.specs.Fields.{is_base, listed, fields_of, base_field, numb
 use Rattle.table_text.specs.Reading.{same_bytes}
 use Rattle.table_text.specs.OutputTable.{number_text, position_text, rows_text, output_table}
 use Rattle.table_text.specs.Parts.{last, ended, in_front, parts}
-use Rattle.table_text.specs.Rows.{position_fields}
-use Rattle.table_text.specs.declared.reading.Checked.TheVariants as table
+use Rattle.table_text.specs.Rows.{position_fields, position_line}
 use Rattle.partner_table.specs.Check.{combined_rows}
-use Rattle.table_text.specs.OutputReading.{partner_names, position_line, partner_table}
+use Rattle.table_text.specs.OutputReading.{partner_names, partner_table}
 use Rattle.partner_table.specs.Promises.{InRange, RowsInRange}
-use Rattle.table_text.specs.Reading.{Table, row, lines_from, read_table}
-use Rattle.partner_table.proofs.Digits.{every_append, decimal_digits, decimal-reads}
+use Rattle.table_text.specs.Reading.{Table, lines_from, read_table}
+use Rattle.partner_table.proofs.Digits.{list_all-append, decimal_digits, decimal-reads}
 use Rattle.partner_table.proofs.InRange.{combined_in}
 
 -- the byte stands nowhere in the text
 abbrev without : ℕ → List ℕ → Bool
-without byte text = every (λ b. not (eqb b byte)) text
+without byte text = list_all (λ b. not (eqb b byte)) text
 
 -- a text without the byte is one part
 pub part_ended_by : (byte : ℕ) (xs ys : List ℕ) → without byte xs ≡ true → parts byte (xs ++ (byte ∷ ys)) ≡ ended xs (parts byte ys)
 unfolding parts in_front
 part_ended_by byte [] ys h = rw (eq-eqb byte byte refl)
 part_ended_by byte (x ∷ xs) ys h =
-    let both = and_both (not (eqb x byte)) (without byte xs) h in
+    let both = and_parts (not (eqb x byte)) (without byte xs) h in
     rw (not-true (eqb x byte) both.0, part_ended_by byte xs ys both.1)
 
 pub part_alone : (byte : ℕ) (xs : List ℕ) → without byte xs ≡ true → parts byte xs ≡ last xs
 unfolding parts in_front
 part_alone byte [] h = refl
 part_alone byte (x ∷ xs) h =
-    let both = and_both (not (eqb x byte)) (without byte xs) h in
+    let both = and_parts (not (eqb x byte)) (without byte xs) h in
     rw (not-true (eqb x byte) both.0, part_alone byte xs both.1)
 
 -- digits are neither spaces nor line feeds
-digits_without : (byte : ℕ) (xs : List ℕ) → byte < 48 → every is_digit xs ≡ true → without byte xs ≡ true
+digits_without : (byte : ℕ) (xs : List ℕ) → byte < 48 → list_all is_digit xs ≡ true → without byte xs ≡ true
 digits_without byte [] h all = refl
 digits_without byte (x ∷ xs) h all =
-    let both = and_both (is_digit x) (every is_digit xs) all in
-    let above : 48 ≤ x = leb-true 48 x (and_both (leb 48 x) (leb x 57) both.0).0 in
+    let both = and_parts (is_digit x) (list_all is_digit xs) all in
+    let above : 48 ≤ x = leb-true 48 x (and_parts (leb 48 x) (leb x 57) both.0).0 in
     rw (ne_eqb x byte (λ e. omega arith), digits_without byte xs h both.1)
 
 number-without : (byte n : ℕ) → byte < 48 → n ≤ 65535 → without byte (decimal n) ≡ true
@@ -89,8 +89,8 @@ module _ (p : Position) (range : InRange p) where
       let q = number-without 10 p.quality (omega arith) (omega (arith, range.quality_le)) in
       let d = number-without 10 p.depth (omega arith) range.depth_le in
       let e = number-without 10 p.error (omega arith) range.error_le in
-      let de : without 10 (decimal p.depth ++ (32 ∷ decimal p.error)) ≡ true = every_append (λ b. not (eqb b 10)) (decimal p.depth) (32 ∷ decimal p.error) d e in
-      let qde : without 10 (numbers_text p.quality p.depth p.error) ≡ true = every_append (λ b. not (eqb b 10)) (decimal p.quality) (32 ∷ (decimal p.depth ++ (32 ∷ decimal p.error))) q de in
+      let de : without 10 (decimal p.depth ++ (32 ∷ decimal p.error)) ≡ true = list_all-append (λ b. not (eqb b 10)) (decimal p.depth) (32 ∷ decimal p.error) d e in
+      let qde : without 10 (numbers_text p.quality p.depth p.error) ≡ true = list_all-append (λ b. not (eqb b 10)) (decimal p.quality) (32 ∷ (decimal p.depth ++ (32 ∷ decimal p.error))) q de in
       rw (base_without 10 p.base (omega arith) range.a_base, qde)
 
   line_fields : fields_of (line_text p) ≡ (p.base ∷ []) ∷ decimal p.quality ∷ decimal p.depth ∷ decimal p.error ∷ []
@@ -105,7 +105,7 @@ module _ (p : Position) (range : InRange p) where
       )
 
   -- a position's line reads as the position
-  pub line_reads : position_line (line_text p) ≡ row p
+  pub line_reads : position_line (line_text p) ≡ Some p
   unfolding position_line position_fields base_field number_field
   line_reads =
       rw (
@@ -118,7 +118,7 @@ module _ (p : Position) (range : InRange p) where
 
 -- what is read of a table that holds these
 abbrev whole : List Position → Table Position
-whole positions = record { rows = positions; ending = table.WellFormed }
+whole positions = record { rows = positions; ending = Ok tt }
 
 rows-read : (line : ℕ) (rows : List (Position × Position)) → RowsInRange rows → line + length rows ≤ 2050 → lines_from position_line line (parts 10 (rows_text rows)) ≡ whole (combined_rows rows)
 unfolding rows_text lines_from parts

@@ -6,10 +6,10 @@ use Prim.Native.Nat.{ℕ, ◌+◌, ◌-◌, ◌*◌, ◌/◌, ◌%◌, ◌^◌, 
 use native.Mathlib.Omega.{arith}
 use borrow.Author.Tests.{leb-true, not-true, eqb-false}
 use lib.Dec.{leb, eqb}
-use Rattle.lists.specs.Every.{every}
-use Rattle.lists.proofs.Cases.{and_both}
+use Rattle.std.specs.Prelude.{Some, None}
+use Rattle.std.specs.List.{list_all}
+use Rattle.std.proofs.lemmas.Bool.{and_parts}
 use Rattle.table_text.specs.Decimal.{is_digit, spelled, plain, digits_number, number, decimal}
-use Rattle.table_text.specs.declared.decimal.Number.TheVariants.{Value, Malformed}
 use Rattle.table_text.proofs.Decimals.{taken, decimal_digit, decimal_more}
 
 spelled-le : (v : ℕ) (bs : List ℕ) → v ≤ spelled v bs
@@ -19,7 +19,7 @@ spelled-le v (b ∷ bs) = omega (arith, spelled-le (v * 10 + (b - 48)) bs)
 
 digit_range : (b : ℕ) → is_digit b ≡ true → (48 ≤ b) × (b ≤ 57)
 digit_range b h =
-    let both = and_both (leb 48 b) (leb b 57) h in
+    let both = and_parts (leb 48 b) (leb b 57) h in
     (leb-true 48 b both.0, leb-true b 57 both.1)
 
 -- one digit more
@@ -30,11 +30,11 @@ digit_after v b some low high fits =
     decimal_more (v * 10 + (b - 48)) (omega arith) fits ∙ rw (front, back)
 
 -- digits after a number that is not 0
-digits_after : (v : ℕ) (bs : List ℕ) → 1 ≤ v → every is_digit bs ≡ true → spelled v bs < 2 ^ 64 → decimal (spelled v bs) ≡ decimal v ++ bs
+digits_after : (v : ℕ) (bs : List ℕ) → 1 ≤ v → list_all is_digit bs ≡ true → spelled v bs < 2 ^ 64 → decimal (spelled v bs) ≡ decimal v ++ bs
 unfolding spelled
 digits_after v [] some all fits = sym (mathlib.Core.List.append-nil (decimal v))
 digits_after v (b ∷ bs) some all fits =
-    let both = and_both (is_digit b) (every is_digit bs) all in
+    let both = and_parts (is_digit b) (list_all is_digit bs) all in
     let range = digit_range b both.0 in
     let next : ℕ = v * 10 + (b - 48) in
     let small : v * 10 + (b - 48) < 2 ^ 64 = omega (arith, spelled-le (v * 10 + (b - 48)) bs, fits) in
@@ -48,15 +48,15 @@ one_digit b h =
     decimal_digit (b - 48) (omega (arith, range.1)) ∙ rw same
 
 -- a plain text of digits is the decimal of what it spells
-pub spelled_once : (field : List ℕ) → plain field ≡ true → every is_digit field ≡ true → spelled 0 field < 2 ^ 64 → field ≡ decimal (spelled 0 field)
+pub spelled_once : (field : List ℕ) → plain field ≡ true → list_all is_digit field ≡ true → spelled 0 field < 2 ^ 64 → field ≡ decimal (spelled 0 field)
 unfolding spelled plain
 spelled_once [] p all fits = absurd (false≢true p)
 spelled_once (b ∷ []) p all fits =
-    let both = and_both (is_digit b) true all in
+    let both = and_parts (is_digit b) true all in
     let same : 0 * 10 + (b - 48) ≡ b - 48 = omega arith in
     rw same (sym (one_digit b both.0))
 spelled_once (b ∷ c ∷ bs) p all fits =
-    let both = and_both (is_digit b) (every is_digit (c ∷ bs)) all in
+    let both = and_parts (is_digit b) (list_all is_digit (c ∷ bs)) all in
     let range = digit_range b both.0 in
     let other = eqb-false b 48 (not-true (eqb b 48) p) in
     let same : 0 * 10 + (b - 48) ≡ b - 48 = omega arith in
@@ -72,13 +72,13 @@ spelled_once (b ∷ c ∷ bs) p all fits =
         go false e = absurd (other (omega (arith, low, borrow.Author.Tests.ltb-false 48 b e)))
 
 -- a field that reads as v is `decimal v`
-pub number_once : (limit : ℕ) (field : List ℕ) (v : ℕ) → limit ≤ 65535 → number limit field ≡ Value v → field ≡ decimal v
+pub number_once : (limit : ℕ) (field : List ℕ) (v : ℕ) → limit ≤ 65535 → number limit field ≡ Some v → field ≡ decimal v
 unfolding number digits_number
 number_once limit field v short e = go (plain field) refl e
   where
-    go : (t : Bool) → plain field ≡ t → cond t (cond (every is_digit field && leb (spelled 0 field) limit) (Value (spelled 0 field)) Malformed) Malformed ≡ Value v → field ≡ decimal v
+    go : (t : Bool) → plain field ≡ t → cond t (cond (list_all is_digit field && leb (spelled 0 field) limit) (Some (spelled 0 field)) None) None ≡ Some v → field ≡ decimal v
     go true p e =
-        let t = taken (every is_digit field && leb (spelled 0 field) limit) (spelled 0 field) v e in
-        let both = and_both (every is_digit field) (leb (spelled 0 field) limit) t.0 in
+        let t = taken (list_all is_digit field && leb (spelled 0 field) limit) (spelled 0 field) v e in
+        let both = and_parts (list_all is_digit field) (leb (spelled 0 field) limit) t.0 in
         spelled_once field p both.0 (omega (arith, leb-true (spelled 0 field) limit both.1)) ∙ ap decimal t.1
-    go false p e = let z : ◌≡◌ {A = ℕ} 0 1 = cc in absurd (omega arith)
+    go false p e = absurd cc

@@ -1,13 +1,16 @@
 -- Document 02, Req 11: what the check's answers say.
-use Rattle.std.specs.Prelude.{◌≡◌, true, List, [], ◌∷◌, ℕ, zero, suc, ◌+◌, ◌≤◌, ◌<◌, length, get_or}
+use Rattle.std.specs.Prelude.{◌≡◌, ◌≢◌, true, List, [], ◌∷◌, ℕ, ◌+◌, ◌≤◌, ◌<◌, length, get_or, Result, Ok, Err}
 use Rattle.codec_duplex.specs.Position.{combined}
 use Rattle.codec_duplex.specs.declared.position.Position.{Position}
 use Rattle.table_text.specs.Fields.{is_base}
 use Rattle.table_text.specs.InputTable.{table_of}
-use Rattle.table_text.specs.declared.reading.Checked.TheVariants as table
-use Rattle.partner_table.specs.declared.compare.Answer.{Answer}
-use Rattle.partner_table.specs.declared.compare.Answer.TheVariants.{Accepted, Wrong, Refused}
 use Rattle.table_text.specs.OutputReading.{partner_table}
+use Rattle.partner_table.specs.Check.{WellFormed, MalformedAt}
+use Rattle.partner_table.specs.declared.fault.Fault.{Fault}
+use Rattle.partner_table.specs.declared.fault.Fault.TheVariants.{Malformed, UnequalLines, Wrong}
+use Rattle.partner_table.specs.declared.fault.Field.{Field}
+use Rattle.partner_table.specs.declared.fault.Field.TheVariants.{Base, Quality, Depth, Error}
+use Rattle.partner_table.specs.declared.fault.Whose.TheVariants.{Ours, Theirs}
 
 -- stands for a place past the end, which no promise asks about
 abbrev pub no_position : Position
@@ -24,19 +27,17 @@ given_at theirs k = get_or (partner_table theirs).rows k no_position
 abbrev pub SameFields : (right given : Position) → Type 0
 SameFields right given = (right.base ≡ given.base) × (right.quality ≡ given.quality) × (right.depth ≡ given.depth) × (right.error ≡ given.error)
 
--- the first field that is wrong: 1 base, 2 quality, 3 depth, 4 error; those before it are right
-abbrev pub FirstField : (right given : Position) → ℕ → Type 0
-FirstField right given zero = ⊥
-FirstField right given (suc zero) = right.base ≡ given.base → ⊥
-FirstField right given (suc (suc zero)) = (right.base ≡ given.base) × (right.quality ≡ given.quality → ⊥)
-FirstField right given (suc (suc (suc zero))) = (right.base ≡ given.base) × (right.quality ≡ given.quality) × (right.depth ≡ given.depth → ⊥)
-FirstField right given (suc (suc (suc (suc zero)))) = (right.base ≡ given.base) × (right.quality ≡ given.quality) × (right.depth ≡ given.depth) × (right.error ≡ given.error → ⊥)
-FirstField right given (suc (suc (suc (suc (suc f))))) = ⊥
+-- the first field that is wrong; those before it are right
+abbrev pub FirstField : (right given : Position) → Field → Type 0
+FirstField right given Base = right.base ≢ given.base
+FirstField right given Quality = (right.base ≡ given.base) × (right.quality ≢ given.quality)
+FirstField right given Depth = (right.base ≡ given.base) × (right.quality ≡ given.quality) × (right.depth ≢ given.depth)
+FirstField right given Error = (right.base ≡ given.base) × (right.quality ≡ given.quality) × (right.depth ≡ given.depth) × (right.error ≢ given.error)
 
 -- both tables are well formed and have equally many lines
 pub record Comparable (ours theirs : List ℕ) : Type 0 where
-  pub ours_formed : (table_of ours).ending ≡ table.WellFormed
-  pub theirs_formed : (partner_table theirs).ending ≡ table.WellFormed
+  pub ours_formed : WellFormed (table_of ours)
+  pub theirs_formed : WellFormed (partner_table theirs)
   pub lines : length (table_of ours).rows ≡ length (partner_table theirs).rows
 
 -- and every line is what the position rules give
@@ -44,28 +45,28 @@ pub record Right (ours theirs : List ℕ) : Type 0 where
   pub comparable : Comparable ours theirs
   pub every_line : (k : ℕ) → k < length (table_of ours).rows → SameFields (right_at ours k) (given_at theirs k)
 
--- the position k stands in line k + 2; that line's field f is wrong, and all before it is right
-pub record FirstWrong (ours theirs : List ℕ) (line f : ℕ) : Type 0 where
+-- the position k stands in line k + 2; that line's field is wrong, and all before it is right
+pub record FirstWrong (ours theirs : List ℕ) (line : ℕ) (field : Field) : Type 0 where
   pub comparable : Comparable ours theirs
   pub place : ℕ
   pub counted : line ≡ place + 2
   pub inside : place < length (table_of ours).rows
   pub lines_before_that : (k : ℕ) → k < place → SameFields (right_at ours k) (given_at theirs k)
-  pub first_field : FirstField (right_at ours place) (given_at theirs place) f
+  pub first_field : FirstField (right_at ours place) (given_at theirs place) field
 
--- a refusal: 27 for a malformed line of ours; else 27 for one of theirs; else 28 for unequal line counts
-pub data Refusal (ours theirs : List ℕ) (number line which : ℕ) : Type 0 where
-  ours_malformed : number ≡ 27 → which ≡ 1 → (table_of ours).ending ≡ table.Malformed line → Refusal ours theirs number line which
-  theirs_malformed : number ≡ 27 → which ≡ 2 → (table_of ours).ending ≡ table.WellFormed → (partner_table theirs).ending ≡ table.Malformed line → Refusal ours theirs number line which
-  unequal : number ≡ 28 → line ≡ 0 → which ≡ 0 → (table_of ours).ending ≡ table.WellFormed → (partner_table theirs).ending ≡ table.WellFormed
-      → (length (table_of ours).rows ≡ length (partner_table theirs).rows → ⊥)
-      → Refusal ours theirs number line which
+-- both tables are well formed, of unequal line counts
+pub record Unequal (ours theirs : List ℕ) : Type 0 where
+  pub ours_formed : WellFormed (table_of ours)
+  pub theirs_formed : WellFormed (partner_table theirs)
+  pub lines : length (table_of ours).rows ≢ length (partner_table theirs).rows
 
--- what an answer says of two tables
-abbrev pub Says : (ours theirs : List ℕ) → Answer → Type 0
-Says ours theirs Accepted = Right ours theirs
-Says ours theirs (Wrong line f) = FirstWrong ours theirs line f
-Says ours theirs (Refused number line which) = Refusal ours theirs number line which
+-- what an answer says of two tables: a malformed line of ours goes first, then one of theirs, then their line counts
+abbrev pub Says : (ours theirs : List ℕ) → Result Unit Fault → Type 0
+Says ours theirs (Ok accepted) = Right ours theirs
+Says ours theirs (Err (Malformed Ours line)) = MalformedAt (table_of ours) line
+Says ours theirs (Err (Malformed Theirs line)) = WellFormed (table_of ours) × MalformedAt (partner_table theirs) line
+Says ours theirs (Err UnequalLines) = Unequal ours theirs
+Says ours theirs (Err (Wrong line field)) = FirstWrong ours theirs line field
 
 -- a position that a table can hold
 pub record InRange (p : Position) : Type 0 where

@@ -3,11 +3,12 @@ ghost use Rattle.std.specs.Prelude.{◌≡◌};
 ghost use Rattle.partner_table.specs.Check.{checked};
 ghost use Rattle.partner_table.specs.Reported.{reported_check};
 
-use crate::compare::{Answer, check_tables};
+use crate::compare::check_tables;
+use crate::fault::Fault;
 
 // Kind 0 is accepted; 1 has a line and a field, 2 a refusal's number, a line and its table.
 #[repr(C)]
-#[derive(Drop)]
+#[derive(Clone, Copy, Debug, PartialEq, Eq)]
 pub struct PartnerAnswer {
     pub kind: u32,
     pub number: u32,
@@ -16,35 +17,38 @@ pub struct PartnerAnswer {
     pub table: u32,
 }
 
-pub fn report_check(answer: Answer) -> PartnerAnswer
-    ensures { result ≡ reported_check answer }
-{
-    match answer {
-        Answer::Accepted => PartnerAnswer {
+impl From<Result<(), Fault>> for PartnerAnswer {
+    ghost from_gives = { λ answer told. told ≡ reported_check answer };
+
+    fn from(answer: Result<(), Fault>) -> PartnerAnswer {
+        let accepted = PartnerAnswer {
             kind: 0,
             number: 0,
             line: 0,
             field: 0,
             table: 0,
-        },
-        Answer::Wrong { line, field } => PartnerAnswer {
-            kind: 1,
-            number: 0,
-            line: line as u64,
-            field,
-            table: 0,
-        },
-        Answer::Refused {
-            number,
-            line,
-            table,
-        } => PartnerAnswer {
-            kind: 2,
-            number,
-            line: line as u64,
-            field: 0,
-            table,
-        },
+        };
+        match answer {
+            Ok(()) => accepted,
+            Err(Fault::Wrong { line, field }) => PartnerAnswer {
+                kind: 1,
+                line: line as u64,
+                field: field.number(),
+                ..accepted
+            },
+            Err(Fault::Malformed { whose, line }) => PartnerAnswer {
+                kind: 2,
+                number: 27,
+                line: line as u64,
+                table: whose.number(),
+                ..accepted
+            },
+            Err(Fault::UnequalLines) => PartnerAnswer {
+                kind: 2,
+                number: 28,
+                ..accepted
+            },
+        }
     }
 }
 
@@ -52,5 +56,5 @@ pub fn report_check(answer: Answer) -> PartnerAnswer
 pub fn report_tables(ours: &[u8], theirs: &[u8]) -> PartnerAnswer
     ensures { result ≡ reported_check (checked ours.now theirs.now) }
 {
-    report_check(check_tables(ours, theirs))
+    PartnerAnswer::from(check_tables(ours, theirs))
 }

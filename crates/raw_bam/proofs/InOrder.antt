@@ -1,11 +1,11 @@
 -- The operations from the end that a record is read from.
 use mathlib.Core.Bool.{Bool, true, false, cond}
-use mathlib.Core.List.{List, [], ◌∷◌, map, reverse as reversed}
+use mathlib.Core.List.{List, map, reverse as reversed}
 use mathlib.Core.Path.{◌≡◌, refl, sym, ◌∙◌, ap}
 use Prim.Native.Nat.{ℕ, ◌-◌, ◌<◌}
-use native.Mathlib.Omega.{arith}
 use lib.ListN.{length, get_or, length-reverse}
-use Rattle.lists.proofs.Reverse.{get_d_reverse, map-reverse}
+use Rattle.std.proofs.lemmas.List.{get_or-reverse}
+use Rattle.lists.proofs.Reverse.{map-reverse}
 use Rattle.raw_bam.specs.Simplified.{simple_entry, joined, simplified}
 use Rattle.raw_bam.proofs.Joining.{joined-reverse}
 
@@ -20,19 +20,13 @@ length-in_order false ops = refl
 
 get_d_in_order : (is_reverse : Bool) (ops : List ℕ) (i : ℕ) → i < length ops → get_or (in_order is_reverse ops) i 0 ≡ get_or ops (cond is_reverse (length ops - 1 - i) i) 0
 unfolding in_order
-get_d_in_order true ops i h = get_d_reverse ops i 0 h
+get_d_in_order true ops i h = get_or-reverse ops i 0 h
 get_d_in_order false ops i h = refl
 
 pub simplified-in_order : (is_reverse : Bool) (ops : List ℕ) → simplified is_reverse ops ≡ joined (map simple_entry (in_order is_reverse ops))
 unfolding simplified in_order
 simplified-in_order true ops = rw (map-reverse simple_entry ops) (sym (joined-reverse (map simple_entry ops)))
 simplified-in_order false ops = refl
-
-pub simplified-none : (is_reverse : Bool) (ops : List ℕ) → length ops ≡ 0 → simplified is_reverse ops ≡ []
-unfolding simplified joined
-simplified-none true [] e = refl
-simplified-none false [] e = refl
-simplified-none is_reverse (op ∷ ops) e = absurd (omega arith)
 
 -- the entry that is made of the operation at a place in order
 pub entry_read : (is_reverse : Bool) (ops : List ℕ) (i p e : ℕ) → i < length ops → p ≡ cond is_reverse (length ops - 1 - i) i → e ≡ simple_entry (get_or ops p 0)

@@ -2,13 +2,16 @@
 use mathlib.Core.Bool.{Bool, true, false, cond}
 use mathlib.Core.List.{List, [], ◌∷◌, ◌++◌, map, reverse, reverse-cons, append_assoc}
 use mathlib.Core.Path.{◌≡◌, refl, sym, ◌∙◌, ap}
-use Prim.Native.Nat.{ℕ, suc, ◌+◌, ◌≤◌, zero-le, suc-le-suc}
+use Prim.Native.Nat.{ℕ, zero, suc, ◌+◌, ◌-◌, ◌≤◌, ◌<◌, zero-le, suc-le-suc}
 use native.Mathlib.Nat.{le_refl}
 use native.Mathlib.Omega.{arith}
 use borrow.Author.Tests.{eqb-true, eqb-false, eq-eqb, ne_eqb}
 use lib.Dec.{eqb}
-use lib.ListN.{length, length-map, length-reverse}
+use lib.ListN.{length, get_or, set, drop, length-map, length-reverse, length-set, length-append}
+use Rattle.std.proofs.lemmas.List.{get_or_append_left, nil_from_length}
 use Rattle.lists.specs.Total.{total}
+use Rattle.lists.specs.Written.{written}
+use Rattle.lists.proofs.Written.{set-written, written_more}
 use Rattle.raw_bam.specs.Cigar.{op_length, op_code}
 use Rattle.raw_bam.specs.Simplified.{kind_of, simple_entry, joined_word, prepend, joined, simplified}
 
@@ -74,6 +77,49 @@ joined-extend (x ∷ xs) z = ap (prepend x) (joined-extend xs z) ∙ prepend-ext
 pub joined_more : (xs : List ℕ) (z : ℕ) (done : List ℕ) (last : ℕ) → joined xs ≡ done ++ (last ∷ [])
     → joined (xs ++ (z ∷ [])) ≡ done ++ cond (eqb (op_code last) (op_code z)) (joined_word last z ∷ []) (last ∷ z ∷ [])
 joined_more xs z done last e = joined-extend xs z ∙ ap (λ (l : List ℕ). extend l z) e ∙ extend_last done last z
+
+-- where the last entry is of its kind, an entry is joined with it
+extend_same : (ys : List ℕ) (n z : ℕ) → suc n ≡ length ys → op_code (get_or ys n 0) ≡ op_code z → extend ys z ≡ set ys n (joined_word (get_or ys n 0) z)
+unfolding extend
+extend_same [] n z size e = absurd (omega arith)
+extend_same (y ∷ []) zero z size e = rw (eq-eqb (op_code y) (op_code z) e)
+extend_same (y ∷ []) (suc n) z size e = absurd (omega arith)
+extend_same (y ∷ y' ∷ ys) zero z size e = absurd (omega arith)
+extend_same (y ∷ y' ∷ ys) (suc n) z size e = ap {B = List ℕ} (λ r. y ∷ r) (extend_same (y' ∷ ys) n z (omega arith) e)
+
+-- and else it is put after it
+extend_other : (ys : List ℕ) (n z : ℕ) → suc n ≡ length ys → (op_code (get_or ys n 0) ≡ op_code z → ⊥) → extend ys z ≡ ys ++ (z ∷ [])
+unfolding extend
+extend_other [] n z size differ = absurd (omega arith)
+extend_other (y ∷ []) zero z size differ = rw (ne_eqb (op_code y) (op_code z) differ)
+extend_other (y ∷ []) (suc n) z size differ = absurd (omega arith)
+extend_other (y ∷ y' ∷ ys) zero z size differ = absurd (omega arith)
+extend_other (y ∷ y' ∷ ys) (suc n) z size differ = ap {B = List ℕ} (λ r. y ∷ r) (extend_other (y' ∷ ys) n z (omega arith) differ)
+
+-- a column that holds what entries join to, with one entry more
+module _ (xs old : List ℕ) (z n : ℕ) (size : n ≡ length (joined xs)) where
+  pub joins_last : (last : ℕ) → 0 < n → last ≡ get_or (written (joined xs) old) (n - 1) 0 → op_code last ≡ op_code z
+      → let more = joined (xs ++ (z ∷ [])) in (set (written (joined xs) old) (n - 1) (joined_word last z) ≡ written more old) × (n ≡ length more)
+  joins_last last some is same =
+      let place : n - 1 < length (joined xs) = omega arith in
+      let own : last ≡ get_or (joined xs) (n - 1) 0 = is ∙ get_or_append_left (joined xs) (drop (length (joined xs)) old) 0 (n - 1) place in
+      let more : joined (xs ++ (z ∷ [])) ≡ set (joined xs) (n - 1) (joined_word last z) =
+      joined-extend xs z ∙ rw own (extend_same (joined xs) (n - 1) z (omega arith) (ap op_code (sym own) ∙ same)) in
+      (rw (more, set-written (joined xs) old (n - 1) (joined_word last z) place), rw (more, length-set (joined xs) (n - 1) (joined_word last z)) size)
+
+  extends : (k : ℕ) → n ≡ k → (0 < n → op_code (get_or (written (joined xs) old) (n - 1) 0) ≡ op_code z → ⊥) → extend (joined xs) z ≡ joined xs ++ (z ∷ [])
+  unfolding extend
+  extends zero e differ = rw (nil_from_length (joined xs) (omega arith))
+  extends (suc k) e differ =
+      let place : n - 1 ≡ k = omega arith in
+      extend_other (joined xs) k z (omega arith)
+      (λ same. differ (omega arith) (rw (place, get_or_append_left (joined xs) (drop (length (joined xs)) old) 0 k (omega arith)) same))
+
+  pub begins_entry : n < length old → (0 < n → op_code (get_or (written (joined xs) old) (n - 1) 0) ≡ op_code z → ⊥)
+      → let more = joined (xs ++ (z ∷ [])) in (set (written (joined xs) old) n z ≡ written more old) × (n + 1 ≡ length more)
+  begins_entry room differ =
+      let more : joined (xs ++ (z ∷ [])) ≡ joined xs ++ (z ∷ []) = joined-extend xs z ∙ extends n refl differ in
+      (rw (more, size) (written_more (joined xs) old z (omega arith)), rw (more, length-append) (omega arith))
 
 -- a reversed list joins to the reversed list
 pub joined-reverse : (xs : List ℕ) → joined (reverse xs) ≡ reverse (joined xs)

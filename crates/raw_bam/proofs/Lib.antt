@@ -1,4 +1,5 @@
 pub mod InOrder
 pub mod Joining
+pub mod Masks
 pub mod Positions
 pub mod Prefixes

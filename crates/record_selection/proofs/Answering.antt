@@ -10,7 +10,7 @@ use lib.IntN.{ℤ}
 use lib.ListN.{length, take}
 use Rattle.codec_select.specs.Alignments.{Alignments, alignments, alignments_of}
 use Rattle.codec_records.specs.Marks.{marks, side_flags}
-use Rattle.codec_records.specs.Records.{column, Holds}
+use Rattle.codec_records.specs.Records.{column, Holds, room_of}
 use Rattle.codec_pairing.specs.Refusals.{first_refusal}
 use Rattle.codec_select.specs.Selection.{course_of}
 use Rattle.record_selection.specs.Selecting.{SelectsInto, Selects}
@@ -22,7 +22,7 @@ use Rattle.caller.specs.declared.refusal.Refusal.TheVariants as refusals
 use Rattle.codec_select.specs.declared.selection.Decision.{Decision}
 use Rattle.codec_select.specs.declared.selection.Decision.TheVariants.{Refused}
 use Rattle.codec_select.specs.declared.selection.Selection.{Selection}
-use Rattle.codec_select.specs.declared.selection.Sides.{Sides}
+use Rattle.codec_records.specs.declared.side.Sides.{Sides}
 use Rattle.codec_records.proofs.Words.{no_marks}
 
 -- 1 where the minimum duplex length is refused too, else 2
@@ -63,59 +63,66 @@ selects_many o count many some others ops s selects =
     unmarked xs ys m n e f = rw (e, f, no_marks m, no_marks n)
 
 -- what is given on columns that are the records' fields
-of_records_lem : (o : Options) (count : ℕ) (records : List Record) (ops : List ℕ) (sides : Sides) (fates r1 r2 : List ℕ)
+of_records_lem : (o : Options) (count : ℕ) (records : List Record) (ops : List ℕ) (decision : Decision) (fates : List ℕ) (sides : Sides)
     {flags names : List ℕ} {verdicts : List Bool} {ranks : List ℤ} {clipped positions starts counts : List ℕ}
     → flags ≡ column Record.flags records → names ≡ column Record.name records → verdicts ≡ column Record.verdict records → ranks ≡ column Record.rank records
     → clipped ≡ column Record.clipped records → positions ≡ column Record.position records → starts ≡ column Record.start records → counts ≡ column Record.count records
-    → CourseIn (selected o count names verdicts ranks (alignments flags clipped positions starts counts ops)) sides fates r1 r2
-    → CourseIn (course_of o count records ops) sides fates r1 r2
-of_records_lem o count records ops sides fates r1 r2 a b c d e f g h given = rw (a, b, c, d, e, f, g, h) at given
+    → CourseIn (selected o count names verdicts ranks (alignments flags clipped positions starts counts ops)) decision fates sides
+    → CourseIn (course_of o count records ops) decision fates sides
+of_records_lem o count records ops decision fates sides a b c d e f g h given = rw (a, b, c, d, e, f, g, h) at given
 
 -- the sides of as many records as mark words
-selects_marked : (o : Options) (count : ℕ) (records : List Record) (ops : List ℕ) (n : ℕ) (sides : Sides) (fates r1 r2 : List ℕ) (s : Selection)
-    → n ≡ length records → SelectsInto o count records ops sides fates r1 r2
-    → s.decision ≡ sides.decision → s.r1 ≡ marks (side_flags (take sides.r1 r1) n) → s.r2 ≡ marks (side_flags (take sides.r2 r2) n)
+selects_marked : (o : Options) (count : ℕ) (records : List Record) (ops : List ℕ) (n : ℕ) (fates : List ℕ) (sides : Sides) (s : Selection)
+    → n ≡ length records → SelectsInto o count records ops s.decision fates sides
+    → s.r1 ≡ marks (side_flags sides.r1 n) → s.r2 ≡ marks (side_flags sides.r2 n)
     → Selects o count records ops s
-selects_marked o count records ops n sides fates r1 r2 s size into d e f =
+selects_marked o count records ops n fates sides s size into e f =
     record {
-      decision = d ∙ into.decision;
-      r1 = e ∙ rw (into.r1_fills.front, size);
-      r2 = f ∙ rw (into.r2_fills.front, size);
+      decision = into.decision_is;
+      r1 = e ∙ rw (into.r1_is, size);
+      r2 = f ∙ rw (into.r2_is, size);
     }
 
 -- every list of records that the columns hold; of too many, any list
-module _ (o : Options) (count : ℕ) (c : Columns) (ops : List ℕ) (n : ℕ) (sides : Sides) (fates r1 r2 : List ℕ) (room : n ≡ cond (ltb 512 count) 0 count) where
+module _ (o : Options) (c : Columns) (ops : List ℕ) (fates : List ℕ) (sides : Sides) where
+  abbrev count : ℕ
+  count = c.given
+
+  abbrev n : ℕ
+  n = room_of c.given
+
+  abbrev here : Alignments
+  here = alignments (take n c.flags) (take n c.clipped) (take n c.positions) (take n c.starts) (take n c.counts) ops
+
   -- what the first n places of the columns give
-  pub into_records : CourseIn
-      (selected o count (take n c.names) (take n c.verdicts) (take n c.ranks) (alignments (take n c.flags) (take n c.clipped) (take n c.positions) (take n c.starts) (take n c.counts) ops))
-      sides fates r1 r2
-      → (records : List Record) → (count ≤ 512 → Holds c count records) → SelectsInto o count records ops sides fates r1 r2
-  into_records given records holds = by (ltb 512 count) refl room
+  pub into_records : (decision : Decision) → CourseIn (selected o count (take n c.names) (take n c.verdicts) (take n c.ranks) here) decision fates sides
+      → (records : List Record) → (count ≤ 512 → Holds c count records) → SelectsInto o count records ops decision fates sides
+  into_records decision given records holds = by (ltb 512 count) refl refl
     where
-      by : (test : Bool) → ltb 512 count ≡ test → n ≡ cond test 0 count → SelectsInto o count records ops sides fates r1 r2
+      by : (test : Bool) → ltb 512 count ≡ test → n ≡ cond test 0 count → SelectsInto o count records ops decision fates sides
       by true test f =
           let many = ltb-true 512 count test in
-          let own = many_refused o count many (take n c.names) (take n c.verdicts) (take n c.ranks) (alignments (take n c.flags) (take n c.clipped) (take n c.positions) (take n c.starts) (take n c.counts) ops) in
+          let own = many_refused o count many (take n c.names) (take n c.verdicts) (take n c.ranks) here in
           let other = records_refused o count many records ops in
           record {
-            decision = given.decision ∙ own.ends ∙ sym other.ends;
+            decision_is = given.decision_is ∙ own.ends ∙ sym other.ends;
             fates_are = λ few. absurd (omega (arith, many, few));
-            r1_fills = rw (own.no_r1 ∙ sym other.no_r1) at given.r1_fills;
-            r2_fills = rw (own.no_r2 ∙ sym other.no_r2) at given.r2_fills;
+            r1_is = given.r1_is ∙ own.no_r1 ∙ sym other.no_r1;
+            r2_is = given.r2_is ∙ own.no_r2 ∙ sym other.no_r2;
           }
       by false test f =
           let held : Holds c n records = rw f (holds (ltb-false 512 count test)) in
-          let own = of_records_lem o count records ops sides fates r1 r2 held.flags_are held.names_are held.verdicts_are held.ranks_are held.clipped_are held.positions_are held.starts_are held.counts_are given in
-          record { decision = own.decision; fates_are = λ few. own.fates_are; r1_fills = own.r1_fills; r2_fills = own.r2_fills }
+          let own = of_records_lem o count records ops decision fates sides held.flags_are held.names_are held.verdicts_are held.ranks_are held.clipped_are held.positions_are held.starts_are held.counts_are given in
+          record { decision_is = own.decision_is; fates_are = λ few. own.fates_are; r1_is = own.r1_is; r2_is = own.r2_is }
 
   -- the sides as mark words
-  pub marked_records : (s : Selection) → ((records : List Record) → (count ≤ 512 → Holds c count records) → SelectsInto o count records ops sides fates r1 r2)
-      → s.decision ≡ sides.decision → s.r1 ≡ marks (side_flags (take sides.r1 r1) n) → s.r2 ≡ marks (side_flags (take sides.r2 r2) n)
+  pub marked_records : (s : Selection) → ((records : List Record) → (count ≤ 512 → Holds c count records) → SelectsInto o count records ops s.decision fates sides)
+      → s.r1 ≡ marks (side_flags sides.r1 n) → s.r2 ≡ marks (side_flags sides.r2 n)
       → (records : List Record) → (count ≤ 512 → Holds c count records) → Selects o count records ops s
-  marked_records s into d e f records holds = by (ltb 512 count) refl room
+  marked_records s into e f records holds = by (ltb 512 count) refl refl
     where
       by : (test : Bool) → ltb 512 count ≡ test → n ≡ cond test 0 count → Selects o count records ops s
       by true test none =
           let many = ltb-true 512 count test in
-          selects_many o count many [] records ops s (selects_marked o count [] ops n sides fates r1 r2 s none (into [] (λ few. absurd (omega (arith, many, few)))) d e f)
-      by false test all = selects_marked o count records ops n sides fates r1 r2 s (all ∙ (holds (ltb-false 512 count test)).as_many) (into records holds) d e f
+          selects_many o count many [] records ops s (selects_marked o count [] ops n fates sides s none (into [] (λ few. absurd (omega (arith, many, few)))) e f)
+      by false test all = selects_marked o count records ops n fates sides s (all ∙ (holds (ltb-false 512 count test)).as_many) (into records holds) e f

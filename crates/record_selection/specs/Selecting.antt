@@ -3,17 +3,17 @@ use Rattle.std.specs.Prelude.{List, ◌≡◌, ℕ, ◌≤◌, length}
 use Rattle.codec_records.specs.Marks.{marks, side_flags}
 use Rattle.codec_records.specs.declared.options.Options.{Options}
 use Rattle.codec_records.specs.declared.records.Record.{Record}
-use Rattle.codec_sides.specs.Side.{Fills}
 use Rattle.codec_select.specs.Selection.{course_of}
 use Rattle.codec_select.specs.declared.selection.Selection.{Selection}
-use Rattle.codec_select.specs.declared.selection.Sides.{Sides}
+use Rattle.codec_records.specs.declared.side.Sides.{Sides}
+use Rattle.codec_select.specs.declared.selection.Decision.{Decision}
 
 -- what a call that lends its fates and sides gives of a family of some number of records; too many have no room for their fates
-pub record SelectsInto (o : Options) (count : ℕ) (records : List Record) (ops : List ℕ) (sides : Sides) (fates r1 r2 : List ℕ) : Type 0 where
-  pub decision : sides.decision ≡ (course_of o count records ops).decision
+pub record SelectsInto (o : Options) (count : ℕ) (records : List Record) (ops : List ℕ) (decision : Decision) (fates : List ℕ) (sides : Sides) : Type 0 where
+  pub decision_is : decision ≡ (course_of o count records ops).decision
   pub fates_are : count ≤ 512 → fates ≡ (course_of o count records ops).fates
-  pub r1_fills : Fills (course_of o count records ops).r1 sides.r1 r1
-  pub r2_fills : Fills (course_of o count records ops).r2 sides.r2 r2
+  pub r1_is : sides.r1 ≡ (course_of o count records ops).r1
+  pub r2_is : sides.r2 ≡ (course_of o count records ops).r2
 
 -- each part of the answer
 pub record Selects (o : Options) (count : ℕ) (records : List Record) (ops : List ℕ) (answer : Selection) : Type 0 where

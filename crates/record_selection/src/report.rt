@@ -68,16 +68,16 @@ pub fn report_selection(decision: Decision) -> SelectDecision
             r2_is_negative,
         },
         Decision::Empty => without_window(1, 0, 0),
-        Decision::Rejected(reason) => without_window(2, reason.number() as u32, 0),
+        Decision::Rejected(reason) => without_window(2, u32::from(u8::from(reason)), 0),
         Decision::Refused(number, with) => without_window(3, number, with as u64),
     }
 }
 
-// The work, on the columns of the records; how many there are is given beside them.
-pub fn report_columns(columns: Columns, len: usize, ops: &[u32], options: Options) -> SelectAnswer
-    ensures { (records : List AnyRecord) → (len ≤ 512 → Holds columns len records) → SelectingRecords options len records ops.now result }
+// The work, on the columns of the records.
+pub fn report_columns(columns: &Columns, ops: &[u32], options: Options) -> SelectAnswer
+    ensures { (records : List AnyRecord) → (columns.now.given ≤ 512 → Holds columns.now columns.now.given records) → SelectingRecords options columns.now.given records ops.now result }
 {
-    let selection = select_marked(columns, len, ops, options);
+    let selection = select_marked(columns, ops, options);
     let decision = selection.decision;
     let r1 = selection.r1;
     let r2 = selection.r2;

@@ -5,7 +5,7 @@ use mathlib.Core.Path.{◌≡◌, refl, ◌∙◌, ap}
 use Prim.Native.Nat.{ℕ, ◌<◌}
 use lib.Dec.{eqb}
 use lib.ListN.{length, length-replicate, get_or-replicate}
-use Rattle.lists.specs.Those.{those}
+use Rattle.std.specs.List.{filter}
 use Rattle.codec_stats.specs.Ledger.{Counts, fresh, figures}
 use Rattle.sample_ledgers.specs.Samples.{sample_total}
 use Rattle.codec_conservation.specs.Chain.{Made, unrefused, Each}
@@ -29,7 +29,7 @@ follows books (m ∷ later) chain =
 
 -- the run's ledger gains what each call not refused counts
 run_adds_up : (books : Books) (made : List SampledMade) → SampledChainFrom books made → (last_books_from books made).run ≡ added_up books.run (unrefused (families_of made))
-unfolding those added_up
+unfolding added_up
 run_adds_up books [] chain = refl
 run_adds_up books (m ∷ later) chain = run_adds_up (books_after m) later chain.1 ∙ go (says_refused m.made.answer.ending) refl
   where
@@ -43,7 +43,7 @@ run_adds_up books (m ∷ later) chain = run_adds_up (books_after m) later chain.
 -- a sample's ledger gains what each call not refused counts that names it
 sample_adds_up : (s : ℕ) (books : Books) (made : List SampledMade) → length books.samples ≡ sample_total → SampledChainFrom books made
     → sample_of s (last_books_from books made).samples ≡ added_up (sample_of s books.samples) (unrefused (families_of (naming s made)))
-unfolding those added_up
+unfolding added_up
 sample_adds_up s books [] many chain = refl
 sample_adds_up s books (m ∷ later) many chain =
     sample_adds_up s (books_after m) later (as_many chain.0 ∙ many) chain.1 ∙ go (eqb m.sample s) refl
@@ -70,17 +70,15 @@ all_take books [] chain = tt
 all_take books (m ∷ later) chain = (call_taken chain.0, all_take (books_after m) later chain.1)
 
 -- what holds of each holds of each of those
-each_those : {A : Type 0} (P : A → Type 0) (test : A → Bool) (xs : List A) → Each P xs → Each P (those test xs)
-unfolding those
+each_those : {A : Type 0} (P : A → Type 0) (test : A → Bool) (xs : List A) → Each P xs → Each P (filter test xs)
 each_those P test [] each = tt
 each_those P test (x ∷ xs) each = go (test x) (each_those P test xs each.1)
   where
-    go : (b : Bool) → Each P (those test xs) → Each P (cond b (x ∷ those test xs) (those test xs))
+    go : (b : Bool) → Each P (filter test xs) → Each P (cond b (x ∷ filter test xs) (filter test xs))
     go true rest = (each.0, rest)
     go false rest = rest
 
 takes_taken : (made : List SampledMade) → Each Takes made → Each Taken (unrefused (families_of made))
-unfolding those
 takes_taken [] each = tt
 takes_taken (m ∷ later) each = go (says_refused m.made.answer.ending) refl (takes_taken later each.1)
   where

@@ -1,7 +1,7 @@
 -- Document 02, Req 01: a list of family calls, 'the run's and all samples' ledgers fresh at the start', each later one handed what the one
 -- before left of both.
 use Rattle.std.specs.Prelude.{List, [], ◌∷◌, map, ◌≡◌, ℕ, eqb}
-use Rattle.lists.specs.Those.{those}
+use Rattle.std.specs.List.{filter}
 use Rattle.codec_stats.specs.Ledger.{Counts}
 use Rattle.codec_family.specs.Call.{room_of}
 use Rattle.codec_conservation.specs.Chain.{Made}
@@ -54,4 +54,4 @@ families_of made = map SampledMade.made made
 
 -- the calls that name a sample
 abbrev pub naming : ℕ → List SampledMade → List SampledMade
-naming s made = those (λ m. eqb m.sample s) made
+naming s made = filter (λ m. eqb m.sample s) made

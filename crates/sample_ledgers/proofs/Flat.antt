@@ -6,69 +6,29 @@ use Prim.Native.Nat.{ℕ, zero, suc, ◌+◌, ◌*◌, ◌/◌, ◌%◌, ◌≤�
 use native.Mathlib.Omega.{arith}
 use borrow.Author.Tests.{ltb-true, ltb-false}
 use lib.Dec.{ltb}
-use lib.ListN.{length, get_or, set, length-set, replicate, length-replicate}
-use lib.Seq.{sets, get_or-set_same, get_or-set_other, ext_get_or}
+use borrow.Rule.Slice.PartMut.{put_mid}
+use lib.ListN.{length, get_or, set, take, drop, length-set, replicate, length-replicate}
+use lib.Seq.{sets, get_or-take, get_or-drop, get_or-set_same, get_or-set_other, ext_get_or}
 use Rattle.lists.specs.Tabulate.{tabulate}
 use Rattle.lists.proofs.Places.{get_d_repeated}
 use Rattle.lists.proofs.Tabulate.{length-tabulate, get_d_tabulate, tabulate_get_d, set-tabulate, tabulate-same}
+use Rattle.lists.proofs.Sets.{put_mid-sets}
 use Rattle.codec_stats.specs.Ledger.{Counts, fresh}
-use Rattle.sample_ledgers.specs.Samples.{sample_total, counts_of, ledger_by, ledger_at, samples_of, flat_of}
+use Rattle.codec_stats.specs.Counts.{counts_of, ledger_by, ledger_of}
+use Rattle.codec_stats.proofs.Counts.{ledger_same, length_counts, ledger_counts, counts_ledger}
+use Rattle.sample_ledgers.specs.Samples.{sample_total, ledger_at, samples_of, flat_of}
 use Rattle.codec_stats.specs.declared.ledger.Ledger.{Ledger}
 
--- places that agree give the same ledger
-pub ledger_same : (p q : ℕ → ℕ) → ((j : ℕ) → j < 20 → p j ≡ q j) → ledger_by p ≡ ledger_by q
-unfolding ledger_by
-ledger_same p q same = λ k.
-    record {
-      families = same 0 (omega arith) k;
-      records = same 1 (omega arith) k;
-      reasons = tabulate-same (λ i. p (i + 2)) (λ i. q (i + 2)) 10 (λ i h. same (i + 2) (omega arith)) k;
-      passed_over = same 12 (omega arith) k;
-      no_strand = same 13 (omega arith) k;
-      used = same 14 (omega arith) k;
-      disagreement_rejected = same 15 (omega arith) k;
-      duplexes = same 16 (omega arith) k;
-      bases = same 17 (omega arith) k;
-      duplex_bases = same 18 (omega arith) k;
-      disagreements = same 19 (omega arith) k;
-    }
+-- twenty places that are copied are the counts of a ledger
+pub ledger_copied : (flat : List ℕ) (s n : ℕ) (counts : List ℕ) → n ≡ 20 → 20 * s + 20 ≤ length flat → counts ≡ take n (drop (20 * s) flat) → ledger_of counts ≡ ledger_at flat s
+ledger_copied flat s n counts twenty fits copied =
+    ledger_same (λ j. get_or counts j 0) (λ j. get_or flat (20 * s + j) 0)
+    (λ j h. rw (copied, twenty, get_or-take 20 (drop (20 * s) flat) j 0 h, get_or-drop (20 * s) flat j 0))
 
-pub length_counts : (l : Ledger) → length (counts_of l) ≡ 20
-unfolding counts_of tabulate
-length_counts l = refl
-
--- a ledger is given by its counts
-pub reasons_back : (l : Ledger) → length l.reasons ≡ 10 → tabulate (λ i. get_or l.reasons i 0) 10 ≡ l.reasons
-reasons_back l ten = ap (tabulate (λ i. get_or l.reasons i 0)) (sym ten) ∙ tabulate_get_d l.reasons 0
-
-ten_counted : (l : Ledger) → tabulate (λ i. get_or (counts_of l) (i + 2) 0) 10 ≡ tabulate (λ i. get_or l.reasons i 0) 10
-unfolding counts_of tabulate
-ten_counted l = refl
-
-pub ledger_counts : (l : Ledger) → length l.reasons ≡ 10 → ledger_by (λ j. get_or (counts_of l) j 0) ≡ l
-unfolding ledger_by counts_of tabulate
-ledger_counts l ten = λ k.
-    record {
-      families = l.families;
-      records = l.records;
-      reasons = (ten_counted l ∙ reasons_back l ten) k;
-      passed_over = l.passed_over;
-      no_strand = l.no_strand;
-      used = l.used;
-      disagreement_rejected = l.disagreement_rejected;
-      duplexes = l.duplexes;
-      bases = l.bases;
-      duplex_bases = l.duplex_bases;
-      disagreements = l.disagreements;
-    }
-
--- and its counts are what was given
-counts_are : (place : ℕ → ℕ) → counts_of (ledger_by place) ≡ tabulate place 20
-unfolding ledger_by counts_of tabulate
-counts_are place = refl
-
-pub counts_ledger : (place : ℕ → ℕ) (j : ℕ) → j < 20 → get_or (counts_of (ledger_by place)) j 0 ≡ place j
-counts_ledger place j h = rw (counts_are place) (get_d_tabulate place 20 j 0 h)
+-- and the counts of a ledger that are copied over them are stored
+pub counts_put : (flat : List ℕ) (s : ℕ) (l : Ledger) (n : ℕ) (counts : List ℕ) → n ≡ 20 → 20 * s + 20 ≤ length flat → counts ≡ counts_of l → put_mid (20 * s) n flat counts ≡ sets flat (20 * s) (counts_of l)
+counts_put flat s l n counts twenty fits same =
+    rw (same, twenty) (put_mid-sets (20 * s) 20 flat (counts_of l) (length_counts l) fits)
 
 -- a run of stores, read
 pub get_d_sets_before : (vs l : List ℕ) (i k d : ℕ) → k < i → get_or (sets l i vs) k d ≡ get_or l k d

@@ -1,36 +1,13 @@
 -- Document 02, Req 01: the samples' ledgers, lent as one array of 96 times 20 numbers.
-use Rattle.std.specs.Prelude.{List, [], ◌∷◌, ◌++◌, ℕ, ◌+◌, ◌*◌, ◌/◌, ◌%◌, get_or}
+use Rattle.std.specs.Prelude.{List, ℕ, ◌+◌, ◌*◌, ◌/◌, ◌%◌, get_or}
 use Rattle.lists.specs.Tabulate.{tabulate}
+use Rattle.codec_stats.specs.Counts.{counts_of, ledger_by}
 use Rattle.codec_stats.specs.Ledger.{Counts, fresh}
 use Rattle.codec_stats.specs.declared.ledger.Ledger.{Ledger}
 
 -- 'up to 96 samples'
 abbrev pub sample_total : ℕ
 sample_total = 96
-
--- the 20 counts of a ledger, in its order
-unfoldable pub counts_of : Ledger → List ℕ
-counts_of l =
-    l.families ∷ l.records ∷ tabulate (λ i. get_or l.reasons i 0) 10
-    ++ (
-    l.passed_over ∷ l.no_strand ∷ l.used ∷ l.disagreement_rejected ∷ l.duplexes ∷ l.bases ∷ l.duplex_bases ∷ l.disagreements ∷ [])
-
--- the ledger whose 20 counts, in its order, are given by their places
-unfoldable pub ledger_by : (ℕ → ℕ) → Ledger
-ledger_by place =
-    record {
-      families = place 0;
-      records = place 1;
-      reasons = tabulate (λ i. place (i + 2)) 10;
-      passed_over = place 12;
-      no_strand = place 13;
-      used = place 14;
-      disagreement_rejected = place 15;
-      duplexes = place 16;
-      bases = place 17;
-      duplex_bases = place 18;
-      disagreements = place 19;
-    }
 
 -- ledger s is the places 20 s to 20 s + 19
 abbrev pub ledger_at : List ℕ → ℕ → Ledger

@@ -4,7 +4,7 @@ ghost use Rattle.family_windows.specs.Places.{ReachedWithin};
 ghost use Rattle.select_table.specs.Places.{StepWithin};
 
 use answer_text::selection_text;
-use codec_records::columns::columns_of;
+use codec_records::columns::gather;
 use codec_records::records::Record;
 use family_text::family;
 use family_text::family::Ending;
@@ -36,8 +36,8 @@ fn answer_family(
 {
     let at = output::make_room(rt, output, to, selection_text::ANSWER_BYTES);
     let words = found.words;
-    let columns = columns_of(table, found.records);
-    let selection = alone::select_marked(columns, found.records, &ops[..words], found.options);
+    let columns = gather(&table, found.records);
+    let selection = alone::select_marked(&columns, &ops[..words], found.options);
     selection_text::write_selection(selection, output, at)
 }
 

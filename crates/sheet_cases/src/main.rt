@@ -3,136 +3,93 @@
 
 ghost use Rattle.std.specs.Prelude.{◌<◌};
 
-use codec_stats::ledger::Ledger;
-use sample_ledgers::samples::store_sample;
-use sheet_text::sheet::{Sheet, write_sheet};
+use codec_stats::ledger::{COUNTS, Ledger};
+use codec_stats::refusals::{COUNTER_LIMIT, FAMILIES_LIMIT};
+use sample_ledgers::samples::{SAMPLE_COUNTS, SAMPLES, store_sample};
+use sheet_text::sheet::write_sheet;
 use std::io;
 
-const FAMILIES_LIMIT: u64 = 1 << 28;
-
-const COUNTER_LIMIT: u64 = 1 << 41;
-
-fn put(rt: &impl Print, text: &[u8]) -> io::Result<()> {
-    rt.write_all(text)
-}
-
-fn put_number(rt: &impl Print, n: u64) -> io::Result<()> {
-    rt.print(n)
-}
-
 // No byte of a sheet is the mark.
+const MARK: u8 = b'#';
+
 fn marks_in(buffer: &[u8]) -> usize {
-    let mut marks: usize = 0;
-    let mut i = 0;
-    while i < buffer.len() {
-        if buffer[i] == b'#' {
-            marks += 1;
-        }
-        i += 1;
-    }
-    marks
+    buffer.iter().filter(|&&byte| byte == MARK).count()
 }
 
-fn show_answer(rt: &impl Print, answer: &[u8], number: u64, buffer: &[u8]) -> io::Result<()> {
-    put_number(rt, buffer.len() as u64)?;
-    put(rt, b" bytes: ")?;
-    put(rt, answer)?;
-    put_number(rt, number)?;
-    put(rt, b", ")?;
-    put_number(rt, marks_in(buffer) as u64)?;
-    put(rt, b" as before\n")
-}
-
-fn show_in(rt: &impl Print, samples: &[u64; 1920], buffer: &mut [u8]) -> io::Result<()> {
-    match write_sheet(samples, buffer) {
-        Sheet::Written(size) => {
-            show_answer(rt, b"written ", size as u64, buffer)?;
-            put(rt, &buffer[..size])
+fn show_in(rt: &impl Print, samples: &[u64; SAMPLE_COUNTS], buffer: &mut [u8]) -> io::Result<()> {
+    let answer = write_sheet(samples, buffer);
+    let bytes = buffer.len();
+    let marks = marks_in(buffer);
+    match answer {
+        Ok(size) => {
+            println!(rt; "{bytes} bytes: written {size}, {marks} as before")?;
+            rt.write_all(&buffer[..size])
         }
-        Sheet::Refused(number) => show_answer(rt, b"refused ", number as u64, buffer),
+        Err(refusal) => {
+            let number = refusal.number();
+            println!(rt; "{bytes} bytes: refused {number}, {marks} as before")
+        }
     }
 }
 
 // Into the shortest buffer, and into one that is a byte shorter.
-fn show(rt: &impl Print, samples: &[u64; 1920]) -> io::Result<()> {
-    let mut buffer = [b'#'; 16384];
-    show_in(rt, samples, &mut buffer)?;
-    let mut short = [b'#'; 16383];
-    show_in(rt, samples, &mut short)
-}
-
-// A ledger with its figures in the order of the sheet, the filtered records by their overlap.
-fn ledger_of(
-    families: u64,
-    records: u64,
-    filtered: u64,
-    duplexes: u64,
-    bases: u64,
-    duplex_bases: u64,
-    disagreements: u64,
-) -> Ledger {
-    Ledger {
-        families,
-        records,
-        reasons: [0, 0, 0, 0, 0, filtered, 0, 0, 0, 0],
-        passed_over: 0,
-        no_strand: 0,
-        used: 0,
-        disagreement_rejected: 0,
-        duplexes,
-        bases,
-        duplex_bases,
-        disagreements,
-    }
+fn show(rt: &impl Print, samples: &[u64; SAMPLE_COUNTS]) -> io::Result<()> {
+    show_in(rt, samples, &mut [MARK; 16384])?;
+    show_in(rt, samples, &mut [MARK; 16383])
 }
 
 // Every count at its limit but the duplex bases: the longest line.
-fn longest() -> Ledger {
-    Ledger {
-        families: FAMILIES_LIMIT,
-        records: COUNTER_LIMIT,
-        reasons: [COUNTER_LIMIT; 10],
-        passed_over: COUNTER_LIMIT,
-        no_strand: COUNTER_LIMIT,
-        used: COUNTER_LIMIT,
-        disagreement_rejected: COUNTER_LIMIT,
-        duplexes: COUNTER_LIMIT,
-        bases: COUNTER_LIMIT,
-        duplex_bases: 1,
-        disagreements: COUNTER_LIMIT,
-    }
-}
-
 fn show_longest(rt: &impl Print) -> io::Result<()> {
-    let mut samples = [0u64; 1920];
-    let mut sample = 0;
-    while sample < 96 {
-        store_sample(&mut samples, sample, longest());
-        sample += 1;
+    let longest = Ledger {
+        families: FAMILIES_LIMIT,
+        duplex_bases: 1,
+        ..Ledger::from([COUNTER_LIMIT; COUNTS])
+    };
+    let mut samples = [0; SAMPLE_COUNTS];
+    for sample in 0..SAMPLES {
+        store_sample(&mut samples, sample, longest);
     }
     show(rt, &samples)
 }
 
+// The filtered records of the last sample are filtered by their overlap.
 fn show_two(rt: &impl Print) -> io::Result<()> {
-    let mut samples = [0u64; 1920];
-    store_sample(&mut samples, 3, ledger_of(1, 2, 0, 1, 15, 5, 1));
-    store_sample(&mut samples, 95, ledger_of(2, 4, 2, 1, 15, 5, 0));
+    let mut samples = [0; SAMPLE_COUNTS];
+    let third = Ledger {
+        families: 1,
+        records: 2,
+        duplexes: 1,
+        bases: 15,
+        duplex_bases: 5,
+        disagreements: 1,
+        ..Ledger::default()
+    };
+    store_sample(&mut samples, 3, third);
+    let last = Ledger {
+        families: 2,
+        records: 4,
+        reasons: [0, 0, 0, 0, 0, 2, 0, 0, 0, 0],
+        duplexes: 1,
+        bases: 15,
+        duplex_bases: 5,
+        ..Ledger::default()
+    };
+    store_sample(&mut samples, SAMPLES - 1, last);
     show(rt, &samples)?;
-    let mut long = [b'#'; 16390];
-    show_in(rt, &samples, &mut long)
+    show_in(rt, &samples, &mut [MARK; 16390])
 }
 
 // One count of sample 7, which has no family but that.
 fn show_count(rt: &impl Print, place: usize, count: u64) -> io::Result<()>
-    requires { place < 20 }
+    requires { place < COUNTS }
 {
-    let mut samples = [0u64; 1920];
-    samples[140 + place] = count;
+    let mut samples = [0; SAMPLE_COUNTS];
+    samples[7 * COUNTS + place] = count;
     show(rt, &samples)
 }
 
 fn main(rt: HostRuntime) -> io::Result<()> {
-    show(&rt, &[0u64; 1920])?;
+    show(&rt, &[0; SAMPLE_COUNTS])?;
     show_two(&rt)?;
     show_count(&rt, 14, COUNTER_LIMIT)?;
     show_count(&rt, 14, COUNTER_LIMIT + 1)?;

@@ -1,43 +1,37 @@
 // A line of the sheet.
-ghost use Rattle.std.specs.Prelude.{false, cond, ◌≡◌, ◌+◌, ◌≤◌, ◌<◌, length};
+ghost use Rattle.std.specs.Prelude.{false, ◌≡◌, ◌+◌, ◌≤◌, ◌<◌, length};
 ghost use Rattle.codec_stats.specs.Ledger.{too_large};
-ghost use Rattle.table_text.specs.OutputTable.{Stored};
-ghost use Rattle.table_text.specs.Text.{space, line_feed};
+ghost use Rattle.table_text.specs.Page.{HasRoom, Appends};
 ghost use Rattle.sheet_text.specs.SheetText.{numbers_text, sample_text};
 
 use codec_stats::ledger::Ledger;
 use codec_stats::rates::{filtered, millionths};
-use table_text::output_table::write_number;
+use table_text::page::Page;
 
-fn byte_after(is_last: bool) -> u8
-    ensures { result ≡ cond is_last line_feed space }
+fn write_numbers(page: &mut Page, numbers: &[u64])
+    requires { HasRoom (length (numbers_text numbers.now)) page.old }
+    ensures { Appends (numbers_text numbers.now) page.old page.new }
 {
-    if is_last { b'\n' } else { b' ' }
-}
-
-fn write_numbers(numbers: &[u64], output: &mut [u8], to: usize) -> usize
-    requires { to + length (numbers_text numbers.now) ≤ length output.old }
-    ensures { Stored (numbers_text numbers.now) output.old to output.new result }
-{
-    let mut end = to;
-    let mut i = 0;
-    while i < numbers.len() {
-        let after = byte_after(i + 1 == numbers.len());
-        end = write_number(numbers[i], after, output, end);
-        i += 1;
+    let Some((&last, others)) = numbers.split_last() else {
+        return;
+    };
+    for &n in others {
+        page.write_number(n, b' ');
     }
-    end
+    page.write_number(last, b'\n');
 }
 
 // Refusal 10 leaves at most 2, 9, 13, 14, 13, 13, 13, 13 and 19 digits, and after each number comes a byte: 118 bytes. Without a family
 // there is no line.
-pub(crate) fn write_sample(sample: usize, ledger: Ledger, output: &mut [u8], to: usize) -> usize
-    requires { (sample < 96) × (too_large ledger ≡ false) × (to + 118 ≤ length output.old) }
-    ensures stored { Stored (sample_text sample ledger) output.old to output.new result }
-    ensures upper_bound { result ≤ to + 118 }
+pub(crate) fn write_sample(page: &mut Page, sample: usize, ledger: Ledger)
+    requires sample_in_bounds { sample < 96 }
+    requires within_limits { too_large ledger ≡ false }
+    requires room { HasRoom 118 page.old }
+    ensures appended { Appends (sample_text sample ledger) page.old page.new }
+    ensures upper_bound { page.new.end ≤ page.old.end + 118 }
 {
     if ledger.families == 0 {
-        return to;
+        return;
     }
     let filtered = filtered(ledger);
     let millionths = millionths(ledger);
@@ -52,5 +46,5 @@ pub(crate) fn write_sample(sample: usize, ledger: Ledger, output: &mut [u8], to:
         ledger.disagreements,
         millionths,
     ];
-    write_numbers(&figures, output, to)
+    write_numbers(page, &figures);
 }

@@ -2,24 +2,29 @@
 ghost use Rattle.std.specs.Prelude.{◌≡◌};
 ghost use Rattle.sheet_text.specs.Reported.{reported_sheet};
 
-use crate::sheet::Sheet;
+use crate::refusal::SheetRefusal;
 
 // Number 0 has the text's length, any other is a refusal's, with 0.
 #[repr(C)]
-#[derive(Drop)]
+#[derive(Clone, Copy, Debug, PartialEq, Eq)]
 pub struct SheetAnswer {
     pub number: u32,
     pub length: u64,
 }
 
-pub fn report_sheet(answer: Sheet) -> SheetAnswer
-    ensures { result ≡ reported_sheet answer }
-{
-    match answer {
-        Sheet::Written(size) => SheetAnswer {
-            number: 0,
-            length: size as u64,
-        },
-        Sheet::Refused(number) => SheetAnswer { number, length: 0 },
+impl From<Result<usize, SheetRefusal>> for SheetAnswer {
+    ghost from_gives = { λ answer told. told ≡ reported_sheet answer };
+
+    fn from(answer: Result<usize, SheetRefusal>) -> SheetAnswer {
+        match answer {
+            Ok(size) => SheetAnswer {
+                number: 0,
+                length: size as u64,
+            },
+            Err(refusal) => SheetAnswer {
+                number: refusal.number(),
+                length: 0,
+            },
+        }
     }
 }

@@ -1,12 +1,13 @@
 // Runs duplex-table's function on stored tables: on each file that an argument names, and on tables of many positions.
 #![tactic(auto)]
 
-ghost use Rattle.std.specs.Prelude.{◌≤◌, length};
+ghost use Rattle.std.specs.Prelude.{◌≡◌};
 
 use std::io::Read;
 use std::rt::{Env, Files};
 use std::{env, fs, io};
-use table_text::{copying, duplex};
+use table_text::duplex;
+use table_text::page::Page;
 
 // Long enough for 2,049 of the longest lines.
 const TABLE_BYTES: usize = 73800;
@@ -21,9 +22,9 @@ fn run_file<R: Files + Alloc + Print + Eprint>(rt: &R, name: &str) -> io::Result
         Err(error) => return eprintln!(rt; "{name}: {error}"),
     };
     let mut input = Vec::new(rt.alloc());
-    let got = file.take(TABLE_BYTES as u64).read_to_end(&mut input)?;
+    file.take(TABLE_BYTES as u64).read_to_end(&mut input)?;
     let mut output = [0u8; duplex::OUTPUT_BYTES];
-    let size = duplex::duplex_table(&input[..got], &mut output);
+    let size = duplex::duplex_table(&input, &mut output);
     title(rt, name)?;
     rt.write_all(&output[..size])
 }
@@ -35,46 +36,36 @@ fn run_files<R: Files + Env + Alloc + Print + Eprint>(rt: &R) -> io::Result<()> 
     Ok(())
 }
 
-// The text after what the buffer holds up to `at`, where there is room for it.
-fn add(text: &[u8], buffer: &mut [u8], at: usize) -> usize
-    requires { at ≤ length buffer.old }
-    ensures { result ≤ length buffer.new }
+// The text behind what the page holds, where there is room for it.
+fn add(page: &mut Page, text: &[u8])
+    ensures { page.new.bytes.ghost_name ≡ page.old.bytes.ghost_name }
 {
-    if buffer.len() - at < text.len() {
-        return at;
+    if text.len() <= page.room() {
+        page.write(text);
     }
-    at + copying::copy_bytes(text, &mut buffer[at..])
 }
 
-fn add_rows(row: &[u8], times: usize, buffer: &mut [u8], start: usize) -> usize
-    requires { start ≤ length buffer.old }
-    ensures { result ≤ length buffer.new }
-{
-    let mut at = start;
-    let mut i = 0;
-    while i < times {
-        at = add(row, buffer, at);
-        i += 1;
-    }
-    at
-}
-
-// The names, a row so many times, and what stands after them.
-fn make_table(row: &[u8], times: usize, rest: &[u8], buffer: &mut [u8]) -> usize
-    ensures { result ≤ length buffer.new }
-{
-    let at_rows = add(b"BA QA DA EA BB QB DB EB\n", buffer, 0);
-    let at_rest = add_rows(row, times, buffer, at_rows);
-    add(rest, buffer, at_rest)
+// Rows of one kind behind the names, and what stands after them.
+#[derive(Clone, Copy)]
+struct Case<'a> {
+    name: &'a str,
+    row: &'a [u8],
+    times: usize,
+    rest: &'a [u8],
 }
 
 // A long answer is given by its length.
-fn run_rows(rt: &impl Print, name: &str, row: &[u8], times: usize, rest: &[u8]) -> io::Result<()> {
-    let mut input = [0u8; TABLE_BYTES];
-    let end = make_table(row, times, rest, &mut input);
+fn run_case(rt: &impl Print, case: Case) -> io::Result<()> {
+    let mut buffer = [0u8; TABLE_BYTES];
+    let mut page = Page::new(&mut buffer);
+    add(&mut page, b"BA QA DA EA BB QB DB EB\n");
+    for _ in 0..case.times {
+        add(&mut page, case.row);
+    }
+    add(&mut page, case.rest);
     let mut output = [0u8; duplex::OUTPUT_BYTES];
-    let size = duplex::duplex_table(&input[..end], &mut output);
-    title(rt, name)?;
+    let size = duplex::duplex_table(page.text(), &mut output);
+    title(rt, case.name)?;
     if size < 64 {
         return rt.write_all(&output[..size]);
     }
@@ -85,30 +76,58 @@ fn main(rt: HostRuntime) -> io::Result<()> {
     run_files(&rt)?;
     let longest = b"A 255 65535 65535 C 254 65535 65535\n";
     let short = b"n 0 0 0 n 0 0 0\n";
-    run_rows(&rt, "2048 longest positions", longest, 2048, b"")?;
-    run_rows(&rt, "2049 longest positions", longest, 2049, b"")?;
-    run_rows(&rt, "2048 positions", short, 2048, b"")?;
-    run_rows(
-        &rt,
-        "2048 positions, the last unended",
-        short,
-        2047,
-        b"n 0 0 0 n 0 0 0",
-    )?;
-    run_rows(
-        &rt,
-        "2049 positions, the last malformed",
-        short,
-        2048,
-        b"n 0 0 0 n 0 0\n",
-    )?;
-    run_rows(&rt, "2049 positions, the last unended", short, 2048, b"n")?;
-    run_rows(&rt, "2048 positions and an empty line", short, 2048, b"\n")?;
-    run_rows(
-        &rt,
-        "a malformed position before the 2049th",
-        short,
-        2047,
-        b"n 0 0 0 n 0 0\nn 0 0 0 n 0 0 0\n",
-    )
+    let cases = [
+        Case {
+            name: "2048 longest positions",
+            row: longest,
+            times: 2048,
+            rest: b"",
+        },
+        Case {
+            name: "2049 longest positions",
+            row: longest,
+            times: 2049,
+            rest: b"",
+        },
+        Case {
+            name: "2048 positions",
+            row: short,
+            times: 2048,
+            rest: b"",
+        },
+        Case {
+            name: "2048 positions, the last unended",
+            row: short,
+            times: 2047,
+            rest: b"n 0 0 0 n 0 0 0",
+        },
+        Case {
+            name: "2049 positions, the last malformed",
+            row: short,
+            times: 2048,
+            rest: b"n 0 0 0 n 0 0\n",
+        },
+        Case {
+            name: "2049 positions, the last unended",
+            row: short,
+            times: 2048,
+            rest: b"n",
+        },
+        Case {
+            name: "2048 positions and an empty line",
+            row: short,
+            times: 2048,
+            rest: b"\n",
+        },
+        Case {
+            name: "a malformed position before the 2049th",
+            row: short,
+            times: 2047,
+            rest: b"n 0 0 0 n 0 0\nn 0 0 0 n 0 0 0\n",
+        },
+    ];
+    for case in cases {
+        run_case(&rt, case)?;
+    }
+    Ok(())
 }

@@ -8,26 +8,26 @@ use native.Mathlib.Omega.{arith}
 use borrow.Author.Tests.{leb-true, lt-ltb, le-ltb}
 use lib.Dec.{leb, ltb}
 use lib.ListN.{length, length-append}
-use Rattle.lists.specs.Every.{every}
+use Rattle.std.specs.List.{list_all}
+use Rattle.std.specs.Prelude.{Some, None}
 use Rattle.table_text.specs.Decimal.{is_digit, spelled, plain, digits_number, number, last_digits, decimal}
-use Rattle.table_text.specs.declared.decimal.Number.TheVariants.{Value, Malformed}
 
 -- a choice that gave a value took its first arm
-pub taken : (t : Bool) (x w : ℕ) → cond t (Value x) Malformed ≡ Value w → (t ≡ true) × (x ≡ w)
+pub taken : (t : Bool) (x w : ℕ) → cond t (Some x) None ≡ Some w → (t ≡ true) × (x ≡ w)
 taken true x w e = (refl, cc)
-taken false x w e = let z : ◌≡◌ {A = ℕ} 0 1 = cc in absurd (omega arith)
+taken false x w e = absurd cc
 
 -- a number that is read is within its limit
-pub number-le : (limit : ℕ) (field : List ℕ) (v : ℕ) → number limit field ≡ Value v → v ≤ limit
+pub number-le : (limit : ℕ) (field : List ℕ) (v : ℕ) → number limit field ≡ Some v → v ≤ limit
 unfolding number digits_number
 number-le limit field v e = go (plain field) e
   where
-    go : (t : Bool) → cond t (cond (every is_digit field && leb (spelled 0 field) limit) (Value (spelled 0 field)) Malformed) Malformed ≡ Value v → v ≤ limit
+    go : (t : Bool) → cond t (cond (list_all is_digit field && leb (spelled 0 field) limit) (Some (spelled 0 field)) None) None ≡ Some v → v ≤ limit
     go true e =
         let value : ℕ = spelled 0 field in
-        let t = taken (every is_digit field && leb value limit) value v e in
-        omega (arith, leb-true value limit ((and-eq-true_iff (every is_digit field) (leb value limit)).0 t.0).1, t.1)
-    go false e = let z : ◌≡◌ {A = ℕ} 0 1 = cc in absurd (omega arith)
+        let t = taken (list_all is_digit field && leb value limit) value v e in
+        omega (arith, leb-true value limit ((and-eq-true_iff (list_all is_digit field) (leb value limit)).0 t.0).1, t.1)
+    go false e = absurd cc
 
 level : (k n : ℕ) → last_digits (suc k) n ≡ cond (ltb n 10) ((48 + n) ∷ []) (last_digits k (n / 10) ++ ((48 + n % 10) ∷ []))
 unfolding last_digits

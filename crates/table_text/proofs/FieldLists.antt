@@ -1,18 +1,19 @@
 -- Laws of the fields of a line.
 use mathlib.Core.Bool.{Bool, true, false}
 use mathlib.Core.List.{List, [], ◌∷◌}
-use mathlib.Core.Path.{◌≡◌, refl}
+use mathlib.Core.Path.{◌≡◌, refl, ap}
 use Prim.Native.Nat.{ℕ, ◌+◌, ◌-◌, ◌≤◌, ◌<◌}
 use native.Mathlib.Omega.{arith}
 use borrow.Author.Tests.{le-leb, lt-leb, ltb-true, ltb-false}
 use lib.Dec.{ltb, leb-zero}
 use lib.ListN.{length, take, drop, length-drop}
 use lib.Seq.{take_all}
+use Rattle.std.specs.Bool.{then_some}
+use Rattle.std.specs.Prelude.{Option, Some, None}
 use Rattle.table_text.specs.Bytes.{index_of}
 use Rattle.table_text.specs.Decimal.{number}
-use Rattle.table_text.specs.Fields.{read, listed, fields_of, fields_from, value_of, number_field}
-use Rattle.table_text.specs.declared.decimal.Number.{Number}
-use Rattle.table_text.specs.declared.decimal.Number.TheVariants.{Value, Malformed}
+use Rattle.table_text.specs.Fields.{Read, listed, fields_of, fields_from, value_of, number_field}
+use Rattle.table_text.specs.Rows.{alone}
 use Rattle.table_text.specs.Parts.{Parts, last, ended, parts}
 use Rattle.table_text.proofs.Decimals.{number-le}
 use Rattle.table_text.proofs.Partings.{part_ended, part_last}
@@ -50,12 +51,26 @@ fields_some line at h = rw (le-leb at (length line) h) (go (parts 32 (drop at li
     go (last part) = (part, [], refl)
     go (ended part more) = (part, listed more, refl)
 
-value_of_lem : (n : Number) (v : ℕ) (after rest : List (List ℕ)) → value_of n after ≡ read v rest → n ≡ Value v
-value_of_lem (Value x) v after rest e = cc
-value_of_lem Malformed v after rest e = let z : ◌≡◌ {A = ℕ} 0 1 = cc in absurd (omega arith)
+-- nothing stands after a value exactly where the place after it is past the end
+pub alone-fields : {A : Type 0} (a : A) (line : List ℕ) (next : ℕ) → alone (Some (a, fields_from line next)) ≡ then_some (ltb (length line) next) a
+alone-fields a line next = go (ltb (length line) next) refl
+  where
+    go : (t : Bool) → ltb (length line) next ≡ t → alone (Some (a, fields_from line next)) ≡ then_some t a
+    go true e = rw (fields_none line next (ltb-true (length line) next e))
+    go false e = rw ((fields_some line next (ltb-false (length line) next e)).2)
+
+-- what is read is a value and the fields after it
+pub same-read : {A : Type 0} {a b : A} {more rest : List (List ℕ)} → ◌≡◌ {A = Read A} (Some (a, more)) (Some (b, rest)) → (a ≡ b) × (more ≡ rest)
+same-read {A} {a} {b} {more} {rest} e =
+    let both : ◌≡◌ {A = A × List (List ℕ)} (a, more) (b, rest) = cc in
+    (ap (λ (r : A × List (List ℕ)). r.0) both, ap (λ (r : A × List (List ℕ)). r.1) both)
+
+value_of_lem : (n : Option ℕ) (v : ℕ) (after rest : List (List ℕ)) → value_of n after ≡ Some (v, rest) → n ≡ Some v
+value_of_lem (Some x) v after rest e = ap Some (same-read e).0
+value_of_lem None v after rest e = absurd cc
 
 -- a number that is read from a field is within its limit
-pub number_field_le : (limit : ℕ) (fields : List (List ℕ)) (v : ℕ) (rest : List (List ℕ)) → number_field limit fields ≡ read v rest → v ≤ limit
+pub number_field_le : (limit : ℕ) (fields : List (List ℕ)) (v : ℕ) (rest : List (List ℕ)) → number_field limit fields ≡ Some (v, rest) → v ≤ limit
 unfolding number_field
-number_field_le limit [] v rest e = let z : ◌≡◌ {A = ℕ} 0 1 = cc in absurd (omega arith)
+number_field_le limit [] v rest e = absurd cc
 number_field_le limit (field ∷ after) v rest e = number-le limit field v (value_of_lem (number limit field) v after rest e)

@@ -1,6 +1,8 @@
+pub mod Appending
 pub mod Decimals
 pub mod FieldLists
 pub mod Firsts
+pub mod Pages
 pub mod Partings
 pub mod Stores
 pub mod Storing

@@ -1,9 +1,7 @@
 -- Document 01, `duplex-table`: decimals without leading zeros.
-use Rattle.std.specs.Prelude.{Bool, true, false, cond, not, ◌&&◌, List, [], ◌∷◌, ◌++◌, ℕ, zero, suc, ◌+◌, ◌-◌, ◌*◌, ◌/◌, ◌%◌, leb, ltb, eqb}
+use Rattle.std.specs.Prelude.{Bool, true, false, cond, not, ◌&&◌, List, [], ◌∷◌, ◌++◌, ℕ, zero, suc, ◌+◌, ◌-◌, ◌*◌, ◌/◌, ◌%◌, leb, ltb, eqb, Option, Some, None}
 use Prim.Native.Char.{code}
-use Rattle.lists.specs.Every.{every}
-use Rattle.table_text.specs.declared.decimal.Number.{Number}
-use Rattle.table_text.specs.declared.decimal.Number.TheVariants.{Value, Malformed}
+use Rattle.std.specs.List.{list_all}
 
 -- the digits 0 to 9 are bytes in a row
 abbrev pub is_digit : ℕ → Bool
@@ -21,16 +19,16 @@ plain (b ∷ []) = true
 plain (b ∷ c ∷ bs) = not (eqb b (code "0"))
 
 -- the number that v and then the bytes spell, where the bytes are digits and the number is at most the limit
-unfoldable pub digits_number : ℕ → ℕ → List ℕ → Number
-digits_number limit v bytes = cond (every is_digit bytes && leb (spelled v bytes) limit) (Value (spelled v bytes)) Malformed
+unfoldable pub digits_number : ℕ → ℕ → List ℕ → Option ℕ
+digits_number limit v bytes = cond (list_all is_digit bytes && leb (spelled v bytes) limit) (Some (spelled v bytes)) None
 
 -- the same for one byte
-abbrev pub with_digit : ℕ → ℕ → ℕ → Number
-with_digit limit v byte = cond (is_digit byte && leb (v * 10 + (byte - code "0")) limit) (Value (v * 10 + (byte - code "0"))) Malformed
+abbrev pub with_digit : ℕ → ℕ → ℕ → Option ℕ
+with_digit limit v byte = cond (is_digit byte && leb (v * 10 + (byte - code "0")) limit) (Some (v * 10 + (byte - code "0"))) None
 
 -- the number of a field: a decimal without leading zeros, at most the limit
-unfoldable pub number : ℕ → List ℕ → Number
-number limit field = cond (plain field) (digits_number limit 0 field) Malformed
+unfoldable pub number : ℕ → List ℕ → Option ℕ
+number limit field = cond (plain field) (digits_number limit 0 field) None
 
 -- the digits of n, at most k of them: those of n / 10 and then the last; below 10 the last alone
 unfoldable pub last_digits : ℕ → ℕ → List ℕ

@@ -5,6 +5,7 @@ pub mod Fields
 pub mod InputTable
 pub mod OutputReading
 pub mod OutputTable
+pub mod Page
 pub mod Parts
 pub mod Reading
 pub mod Rows

@@ -3,68 +3,46 @@ ghost use Rattle.std.specs.Prelude.{◌≡◌, ◌+◌, ◌≤◌, length};
 ghost use Rattle.std.proofs.lemmas.List.Edits.{sets};
 ghost use Rattle.table_text.specs.Decimal.{plain, with_digit, digits_number, number, decimal};
 
-#[derive(Drop)]
-pub enum Number {
-    Value(u64),
-    Malformed,
-}
-
 // A 0 in front of another digit is not plain.
 fn starts_plain(field: &[u8]) -> bool
     ensures { result ≡ plain field.now }
 {
-    if field.len() == 0 {
-        return false;
+    match field {
+        [] => false,
+        [_] => true,
+        [first, ..] => *first != b'0',
     }
-    if field.len() == 1 {
-        return true;
-    }
-    field[0] != b'0'
 }
 
-// One more digit; the limit is tested before the product could wrap.
-fn with_digit(value: u64, byte: u8, limit: u64) -> Number
+// One more digit.
+fn with_digit(value: u64, byte: u8, limit: u64) -> Option<u64>
     ensures { result ≡ with_digit limit value byte }
 {
-    if byte < b'0' {
-        return Number::Malformed;
+    if !byte.is_ascii_digit() {
+        return None;
     }
-    if b'9' < byte {
-        return Number::Malformed;
-    }
-    let digit = (byte - b'0') as u64;
-    if limit < digit {
-        return Number::Malformed;
-    }
-    if (limit - digit) / 10 < value {
-        return Number::Malformed;
-    }
-    Number::Value(value * 10 + digit)
+    let next = value.checked_mul(10)?.checked_add(u64::from(byte - b'0'))?;
+    (next <= limit).then_some(next)
 }
 
-fn read_digits(field: &[u8], limit: u64) -> Number
+fn read_digits(field: &[u8], limit: u64) -> Option<u64>
     ensures { result ≡ digits_number limit 0 field.now }
 {
-    let mut value: u64 = 0;
-    let mut i = 0;
-    while i < field.len() {
-        let Number::Value(next) = with_digit(value, field[i], limit) else {
-            return Number::Malformed;
-        };
-        value = next;
-        i += 1;
+    let mut value = 0;
+    for &byte in field {
+        value = with_digit(value, byte, limit)?;
     }
-    Number::Value(value)
+    Some(value)
 }
 
 // The number of a field, however long the field is.
-pub fn read_decimal(field: &[u8], limit: u64) -> Number
+pub fn read_decimal(field: &[u8], limit: u64) -> Option<u64>
     ensures { result ≡ number limit field.now }
 {
     if starts_plain(field) {
         read_digits(field, limit)
     } else {
-        Number::Malformed
+        None
     }
 }
 

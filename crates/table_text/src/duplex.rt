@@ -4,26 +4,20 @@ ghost use Rattle.lists.specs.Written.{written};
 ghost use Rattle.table_text.specs.Duplex.{CombinedTable, refusal_text, standard_output};
 ghost use Rattle.table_text.specs.OutputTable.{Front};
 
-use crate::reading::Checked;
-use crate::{copying, input_table, output_table};
+use crate::page::Page;
+use crate::reading::Malformed;
+use crate::{output_table, reading};
+use codec_duplex::position::Position;
 
 // Room for the longest output: 20 bytes of names, and 20 for each of 2,048 positions.
 pub const OUTPUT_BYTES: usize = 40980;
 
-#[derive(Drop)]
-pub enum TableAnswer {
-    Written(usize),
-    Malformed(usize),
-}
-
 // The output table, or the first malformed line, and then the buffer is left as it was.
-pub fn combine_table(input: &[u8], output: &mut [u8; OUTPUT_BYTES]) -> TableAnswer
+pub fn combine_table(input: &[u8], output: &mut [u8; OUTPUT_BYTES]) -> Result<usize, Malformed>
     ensures { CombinedTable input.now output.old output.new result }
 {
-    if let Checked::Malformed(line) = input_table::check_table(input) {
-        return TableAnswer::Malformed(line);
-    }
-    TableAnswer::Written(output_table::write_table(input, output))
+    reading::check_table::<(Position, Position)>(input)?;
+    Ok(output_table::write_table(input, output))
 }
 
 // Writes the one line of a refusal, for which 32 bytes are room enough.
@@ -32,8 +26,10 @@ fn write_refusal(line: usize, output: &mut [u8]) -> usize
     ensures value { result ≡ length (refusal_text 13 line) }
     ensures output_after { output.new ≡ written (refusal_text 13 line) output.old }
 {
-    let to = copying::copy_bytes(b"refused 13 ", output);
-    output_table::write_number(line as u64, b'\n', output, to)
+    let mut page = Page::new(output);
+    page.write(b"refused 13 ");
+    page.write_number(line as u64, b'\n');
+    page.end
 }
 
 // What the program writes to standard output for an input.
@@ -43,7 +39,7 @@ pub fn duplex_table(input: &[u8], output: &mut [u8; OUTPUT_BYTES]) -> usize
     ensures front { Front result output.new }
 {
     match combine_table(input, output) {
-        TableAnswer::Written(size) => size,
-        TableAnswer::Malformed(line) => write_refusal(line, output),
+        Ok(size) => size,
+        Err(malformed) => write_refusal(malformed.line, output),
     }
 }

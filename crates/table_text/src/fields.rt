@@ -3,63 +3,38 @@
 // A field is followed by a space or by the end of its line. `next` is the place after that, so that past the end of the
 // line there is no field.
 ghost use Rattle.std.specs.Prelude.{◌≡◌};
-ghost use Rattle.table_text.specs.Fields.{is_base, fields_from, base_field, number_field, base_in, number_in};
+ghost use Rattle.table_text.specs.Fields.{is_base, fields_from, base_field, number_field, read_in};
 
-use crate::decimal::Number;
 use crate::{decimal, parts};
-
-#[derive(Drop)]
-pub enum BaseField {
-    Base(u8, usize),
-    Malformed,
-}
-
-#[derive(Drop)]
-pub enum NumberField {
-    Value(u64, usize),
-    Malformed,
-}
 
 fn is_base(byte: u8) -> bool
     ensures { result ≡ is_base byte }
 {
-    (byte == b'A')
-        | (byte == b'C')
-        | (byte == b'G')
-        | (byte == b'T')
-        | (byte == b'N')
-        | (byte == b'n')
+    matches!(byte, b'A' | b'C' | b'G' | b'T' | b'N' | b'n')
 }
 
-// The field at `at`, one of the bases.
-pub fn read_base(line: &[u8], at: usize) -> BaseField
-    ensures { base_in line.now result ≡ base_field (fields_from line.now at) }
+// The field at `at`, one of the bases, and the place after it.
+pub fn read_base(line: &[u8], at: usize) -> Option<(u8, usize)>
+    ensures { read_in line.now result ≡ base_field (fields_from line.now at) }
 {
     if line.len() < at {
-        return BaseField::Malformed;
+        return None;
     }
     let end = parts::part_end(line, at, b' ');
-    if end - at != 1 {
-        return BaseField::Malformed;
-    }
-    let base = line[at];
-    if is_base(base) {
-        BaseField::Base(base, end + 1)
-    } else {
-        BaseField::Malformed
+    match &line[at..end] {
+        &[base] if is_base(base) => Some((base, end + 1)),
+        _ => None,
     }
 }
 
-// The field at `at`, a decimal at most the limit.
-pub fn read_number(line: &[u8], at: usize, limit: u64) -> NumberField
-    ensures { number_in line.now result ≡ number_field limit (fields_from line.now at) }
+// The field at `at`, a decimal at most the limit, and the place after it.
+pub fn read_number(line: &[u8], at: usize, limit: u64) -> Option<(u64, usize)>
+    ensures { read_in line.now result ≡ number_field limit (fields_from line.now at) }
 {
     if line.len() < at {
-        return NumberField::Malformed;
+        return None;
     }
     let end = parts::part_end(line, at, b' ');
-    let Number::Value(value) = decimal::read_decimal(&line[at..end], limit) else {
-        return NumberField::Malformed;
-    };
-    NumberField::Value(value, end + 1)
+    let value = decimal::read_decimal(&line[at..end], limit)?;
+    Some((value, end + 1))
 }

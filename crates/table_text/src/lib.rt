@@ -8,6 +8,7 @@ pub mod fields;
 pub mod input_table;
 pub mod output_reading;
 pub mod output_table;
+pub mod page;
 pub mod parts;
 pub mod position;
 pub mod reading;

@@ -1,38 +1,55 @@
 -- Columns of flags that are marked one place after the other.
-use mathlib.Core.Bool.{Bool, true, false, cond}
-use mathlib.Core.List.{List}
-use mathlib.Core.Logic.{⊎_elim}
-use mathlib.Core.Path.{◌≡◌, refl, sym, ◌∙◌, subst}
-use Prim.Native.Nat.{ℕ, ◌+◌, ◌≤◌, ◌<◌}
-use native.Mathlib.Nat.{eq-or-lt_of_le}
-use native.Mathlib.Omega.{arith}
-use lib.ListN.{length, get_or, set}
-use lib.Seq.{get_or-set_same, get_or-set_other}
+use Rattle.std.proofs.Common.{Bool, true, false, ◌||◌, List, [], ◌∷◌, ◌++◌, ◌≡◌, refl, ◌∙◌, ℕ, zero, suc, add-one, ◌+◌, ◌≤◌, ◌<◌, All, length, slice_index, slice_index_or, slice_set, replicate, take, drop, filter, append-nil, arith}
+use Rattle.std.proofs.lemmas.List.{length-replicate, replicate_more}
+use Rattle.std.proofs.lemmas.List.Elements.{All-get_or, filter_more}
+use Rattle.lists.specs.Member.{is_in}
+use Rattle.lists.specs.Tabulate.{tabulate}
+use Rattle.lists.specs.Written.{written}
+use Rattle.lists.proofs.Member.{is_in_here, is_in_other}
+use Rattle.lists.proofs.Tabulate.{length-tabulate, set-tabulate}
+use Rattle.lists.proofs.Written.{set-written}
+use Rattle.std.proofs.lemmas.Grind.{common_steps}
 
 -- from place k on, where a test holds
 module _ (test : ℕ → Bool) (old : List Bool) (k : ℕ) where
   -- marked up to place j, and as it was from there on
-  abbrev pub Marked : ℕ → List Bool → Type 0
-  Marked j now =
-      ((i : ℕ) → k ≤ i → i < j → get_or now i false ≡ cond (test i) true (get_or old i false))
-      × ((i : ℕ) → j ≤ i → get_or now i false ≡ get_or old i false)
-
-  up_to : (P : ℕ → Type 0) (j : ℕ) → ((i : ℕ) → k ≤ i → i < j → P i) → P j → (i : ℕ) → k ≤ i → i < j + 1 → P i
-  up_to P j below here i low high = ⊎_elim (λ e. subst P (sym e) here) (λ l. below i low l) (eq-or-lt_of_le (omega arith))
+  pub record Marked (j : ℕ) (now : List Bool) : Type 0 where
+    pub below : (i : ℕ) → k ≤ i → i < j → slice_index_or now i false ≡ (test i || slice_index_or old i false)
+    pub above : (i : ℕ) → j ≤ i → slice_index_or now i false ≡ slice_index_or old i false
 
   pub mark_none : Marked k old
-  mark_none = (λ i low high. absurd (omega arith), λ i low. refl)
+  mark_none = record { below = λ i low high. absurd (omega arith); above = λ i low. refl }
 
-  pub mark_yes : (j : ℕ) (now : List Bool) → j < length now → test j ≡ true → Marked j now → Marked (j + 1) (set now j true)
-  mark_yes j now room fits marked = (
-    up_to (λ i. get_or (set now j true) i false ≡ cond (test i) true (get_or old i false)) j
-        (λ i low high. get_or-set_other now j i true false (omega arith) ∙ marked.0 i low high)
-        (get_or-set_same now j true false room ∙ rw fits),
-    λ i low. get_or-set_other now j i true false (omega arith) ∙ marked.1 i (omega arith),
-  )
+  pub mark_yes : (j : ℕ) (now : List Bool) → j < length now → test j ≡ true → Marked j now → Marked (j + 1) (slice_set now j true)
+  mark_yes j now room fits marked = record { below = λ i low high. grind (arith, common_steps); above = λ i low. grind (arith, common_steps) }
 
   pub mark_no : (j : ℕ) (now : List Bool) → test j ≡ false → Marked j now → Marked (j + 1) now
-  mark_no j now fails marked = (
-    up_to (λ i. get_or now i false ≡ cond (test i) true (get_or old i false)) j marked.0 (marked.1 j (omega arith) ∙ rw fails),
-    λ i low. marked.1 i (omega arith),
-  )
+  mark_no j now fails marked = record { below = λ i low high. grind (arith, common_steps); above = λ i low. grind (arith, common_steps) }
+
+tabulate-constant : {A : Type 0} (x : A) (n : ℕ) → replicate n x ≡ tabulate (λ _. x) n
+unfolding tabulate
+tabulate-constant x zero = refl
+tabulate-constant x (suc n) = rw (← tabulate-constant x n, replicate_more n x, add-one n)
+
+-- the first n places, filled with one answer
+pub written_fill : {A : Type 0} (x : A) (n : ℕ) (old : List A) → replicate n x ++ drop n old ≡ written (tabulate (λ _. x) n) old
+written_fill x n old = rw (← tabulate-constant x n, length-replicate n x)
+
+-- the first n places of a column say for each number whether it is in a list
+abbrev pub says_members : ℕ → List Bool → List ℕ → List Bool
+says_members n old js = written (tabulate (λ i. is_in i js) n) old
+
+-- those of a list that meet a test are marked one after the other
+module _ (test : ℕ → Bool) (n : ℕ) (old : List Bool) (xs : List ℕ) (k : ℕ) (here : k < length xs) (within : All (λ i. i < n) xs)
+    (column : List Bool) (so_far : column ≡ says_members n old (filter test (take k xs))) where
+  pub says_members_met : n ≤ length old → test (slice_index xs k) ≡ true → slice_set column (slice_index xs k) true ≡ says_members n old (filter test (take (k + 1) xs))
+  says_members_met room met =
+      let i = slice_index xs k in
+      let js = filter test (take k xs) in
+      let below : i < n = All-get_or (λ i. i < n) xs k 0 here within in
+      rw (so_far, filter_more test xs k 0 here, met)
+      (set-written (tabulate (λ k. is_in k js) n) old i true (rw (length-tabulate (λ k. is_in k js) n) below)
+      ∙ rw (set-tabulate (λ k. is_in k js) (λ k. is_in k (js ++ (i ∷ []))) n i true below (is_in_here i js) (λ k differ. is_in_other k i js differ)))
+
+  pub says_members_failed : test (slice_index xs k) ≡ false → column ≡ says_members n old (filter test (take (k + 1) xs))
+  says_members_failed failed = rw (filter_more test xs k 0 here, failed, append-nil) so_far

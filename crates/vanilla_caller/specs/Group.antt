@@ -1,5 +1,6 @@
 -- Document 01, 'Alignment group'. A side is given by its clipped lengths and by the simplified list of each record.
-use Rattle.std.specs.Prelude.{Bool, true, false, cond, List, [], ◌∷◌, ◌++◌, ℕ, ltb, eqb, length}
+use Rattle.std.specs.Prelude.{Bool, true, ◌||◌, ◌&&◌, if◌then◌else◌, List, [], ◌∷◌, ◌++◌, map, ℕ, nat_lt, nat_eq, length}
+use Rattle.std.specs.List.{list_any}
 use Rattle.lists.specs.Member.{is_in}
 use Rattle.lists.specs.Tabulate.{tabulate}
 use Rattle.raw_bam.specs.Prefix.{is_prefix, smaller}
@@ -10,19 +11,18 @@ pub record Group : Type 0 where
   pub first : List ℕ
   pub members : List ℕ
 
--- a record joins every group of whose first list its own is a prefix
-unfoldable pub join_groups : List ℕ → ℕ → List Group → List Group
-join_groups list i [] = []
-join_groups list i (g ∷ gs) =
-    cond (is_prefix list g.first) (record { first = g.first; members = g.members ++ (i ∷ []) }) g ∷ join_groups list i gs
+-- a list is a prefix of a group's first
+abbrev pub fits : List ℕ → Group → Bool
+fits list g = is_prefix list g.first
 
-unfoldable pub fits_any : List ℕ → List Group → Bool
-fits_any list [] = false
-fits_any list (g ∷ gs) = cond (is_prefix list g.first) true (fits_any list gs)
+-- a record joins the group if its list is
+abbrev pub joined_by : List ℕ → ℕ → Group → Group
+joined_by list i g = if fits list g then record g { members = g.members ++ (i ∷ []) } else g
 
--- or else founds one
+-- a record joins every group that its list fits, or else founds one
 unfoldable pub join_or_found : List ℕ → ℕ → List Group → List Group
-join_or_found list i groups = cond (fits_any list groups) (join_groups list i groups) (groups ++ (record { first = list; members = i ∷ [] } ∷ []))
+join_or_found list i groups =
+    if list_any (fits list) groups then map (joined_by list i) groups else (groups ++ (record { first = list; members = i ∷ [] } ∷ []))
 
 -- the groups after each record has joined or founded, one after the other
 unfoldable pub groups_after : (ℕ → List ℕ) → List ℕ → List Group → List Group
@@ -31,7 +31,7 @@ groups_after lists (i ∷ is) groups = groups_after lists is (join_or_found (lis
 
 -- the larger of two groups wins; at a tie that with the smaller first list
 abbrev pub larger : ℕ → List ℕ → ℕ → List ℕ → Bool
-larger size first other_size other_first = cond (ltb other_size size) true (cond (eqb size other_size) (smaller first other_first) false)
+larger size first other_size other_first = nat_lt other_size size || nat_eq size other_size && smaller first other_first
 
 abbrev pub beats : Group → Group → Bool
 beats g h = larger (length g.members) g.first (length h.members) h.first
@@ -39,7 +39,7 @@ beats g h = larger (length g.members) g.first (length h.members) h.first
 -- the winner of the groups and of one more
 unfoldable pub winner : Group → List Group → Group
 winner best [] = best
-winner best (g ∷ gs) = winner (cond (beats g best) g best) gs
+winner best (g ∷ gs) = winner (if beats g best then g else best) gs
 
 -- a group of no records, which every group wins over
 abbrev pub no_group : Group
@@ -52,5 +52,5 @@ most_common lengths lists n = winner no_group (groups_after lists (by_length len
 -- for each record whether it stays: of fewer than two, all do
 unfoldable pub staying : List ℕ → (ℕ → List ℕ) → List Bool
 staying lengths lists =
-    cond (ltb (length lengths) 2) (tabulate (λ _. true) (length lengths))
-    (tabulate (λ i. is_in i (most_common lengths lists (length lengths)).members) (length lengths))
+    if nat_lt (length lengths) 2 then tabulate (λ _. true) (length lengths)
+    else tabulate (λ i. is_in i (most_common lengths lists (length lengths)).members) (length lengths)

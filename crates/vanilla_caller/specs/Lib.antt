@@ -1,4 +1,6 @@
 pub mod Founding
 pub mod Group
+pub mod InOrder
+pub mod Lists
 pub mod Order
 pub mod Side

@@ -1,5 +1,5 @@
 -- The records of a side, as columns: each has a part of the operation words and its own orientation.
-use Rattle.std.specs.Prelude.{Bool, false, List, ℕ, ◌+◌, ◌≤◌, ◌<◌, length, get_or}
+use Rattle.std.specs.Prelude.{Bool, false, List, ℕ, ◌≡◌, ◌+◌, ◌≤◌, ◌<◌, All, length, get_or}
 use Rattle.raw_bam.specs.Cigar.{part_of}
 use Rattle.raw_bam.specs.Simplified.{simplified}
 
@@ -16,9 +16,10 @@ pub record HasRecord (ops starts counts : List ℕ) (is_reverse : List Bool) (i 
   pub short : get_or counts i 0 ≤ 64
 
 -- each of n records is
-abbrev pub Side : List ℕ → List ℕ → List ℕ → List Bool → ℕ → Type 0
-Side ops starts counts is_reverse n = (i : ℕ) → i < n → HasRecord ops starts counts is_reverse i
+abbrev pub HasRecords : List ℕ → List ℕ → List ℕ → List Bool → ℕ → Type 0
+HasRecords ops starts counts is_reverse n = (i : ℕ) → i < n → HasRecord ops starts counts is_reverse i
 
--- an order of records holds none but those
-abbrev pub Ordered : List ℕ → Type 0
-Ordered order = (k : ℕ) → k < length order → get_or order k 0 < length order
+-- an order of n records is as long and holds none but those
+pub record Orders (n : ℕ) (order : List ℕ) : Type 0 where
+  pub long : length order ≡ n
+  pub within : All (λ i. i < n) order

@@ -3,4 +3,4 @@
 
 pub mod group;
 mod order;
-mod side;
+pub mod side;

@@ -1,62 +1,74 @@
 // The records of a side, as columns, and their simplified lists.
-ghost use Rattle.std.specs.Prelude.{◌≡◌, ◌≤◌, length, take};
+ghost use Rattle.std.specs.Prelude.{◌≡◌, ℕ, List, ◌≤◌, ◌<◌, length, take};
 ghost use Rattle.raw_bam.specs.Prefix.{is_prefix, smaller};
-ghost use Rattle.vanilla_caller.specs.Side.{HasRecord, list_of};
+ghost use Rattle.vanilla_caller.specs.Side.{HasRecords};
 
 use raw_bam::prefix::{is_cigar_prefix, is_cigar_smaller};
 use raw_bam::simplified::simplify_cigar_from_raw;
+use std::marker::Model;
 
-// Writes the simplified list of record i, and answers the number of its entries.
-pub fn simplified_list(
-    ops: &[u32],
-    starts: &[u32],
-    counts: &[u32],
-    reverse: &[bool],
-    i: usize,
-    entries: &mut [u64],
-) -> usize
-    requires has_record { HasRecord ops.now starts.now counts.now reverse.now i }
-    requires in_bounds { 64 ≤ length entries.old }
-    ensures { (take result entries.new ≡ list_of ops.now starts.now counts.now reverse.now i) × (result ≡ length (list_of ops.now starts.now counts.now reverse.now i)) × (result ≤ 64) }
-{
-    let start = starts[i] as usize;
-    let end = start + counts[i] as usize;
-    simplify_cigar_from_raw(&ops[start..end], reverse[i], entries)
+// The simplified list of a record, which has at most 64 operations.
+#[derive(Drop)]
+pub struct Simplified {
+    entries: [u64; 64],
+    count: usize,
 }
 
-// The list of record i is a prefix of another.
-pub fn is_prefix_of(
-    ops: &[u32],
-    starts: &[u32],
-    counts: &[u32],
-    reverse: &[bool],
-    i: usize,
-    first: &[u64],
-) -> bool
-    requires { HasRecord ops.now starts.now counts.now reverse.now i }
-    ensures { result ≡ is_prefix (list_of ops.now starts.now counts.now reverse.now i) first.now }
-{
-    let mut entries = [0u64; 64];
-    let count = simplified_list(ops, starts, counts, reverse, i, &mut entries);
-    is_cigar_prefix(&entries[..count], first)
+impl Model for Simplified {
+    ghost Value = { List ℕ };
+
+    ghost view = { λ s. take s.count s.entries };
+
+    ghost invariant = { λ s. s.count ≤ 64 };
 }
 
-// The list of record i is smaller than that of record j.
-pub fn is_smaller_than(
-    ops: &[u32],
-    starts: &[u32],
-    counts: &[u32],
-    reverse: &[bool],
-    i: usize,
-    j: usize,
-) -> bool
-    requires has_record { HasRecord ops.now starts.now counts.now reverse.now i }
-    requires has_record_2 { HasRecord ops.now starts.now counts.now reverse.now j }
-    ensures { result ≡ smaller (list_of ops.now starts.now counts.now reverse.now i) (list_of ops.now starts.now counts.now reverse.now j) }
-{
-    let mut own = [0u64; 64];
-    let own_count = simplified_list(ops, starts, counts, reverse, i, &mut own);
-    let mut other = [0u64; 64];
-    let other_count = simplified_list(ops, starts, counts, reverse, j, &mut other);
-    is_cigar_smaller(&own[..own_count], &other[..other_count])
+impl Simplified {
+    pub fn as_slice(&self) -> &[u64]
+        ensures { result.now ≡ self.now }
+    {
+        &self.entries[..self.count]
+    }
+}
+
+// Each record has a part of the operation words, a clipped length and its own orientation.
+#[derive(Clone, Copy)]
+pub struct Side<'a> {
+    pub ops: &'a [u32],
+    pub clipped: &'a [u32],
+    pub starts: &'a [u32],
+    pub counts: &'a [u32],
+    pub reverse: &'a [bool],
+    ghost has_records: { HasRecords ops.now starts.now counts.now reverse.now (length clipped.now) },
+}
+
+impl Side<'_> {
+    ghost use Rattle.vanilla_caller.specs.Lists.{lists_of};
+
+    pub fn list(&self, i: usize) -> Simplified
+        requires { i < length self.now.clipped.now }
+        ensures { result ≡ lists_of self.now i }
+    {
+        let start = self.starts[i] as usize;
+        let end = start + self.counts[i] as usize;
+        let mut entries = [0; 64];
+        let count = simplify_cigar_from_raw(&self.ops[start..end], self.reverse[i], &mut entries);
+        Simplified { entries, count }
+    }
+
+    // The list of record i is a prefix of another.
+    pub fn is_prefix(&self, i: usize, first: &Simplified) -> bool
+        requires { i < length self.now.clipped.now }
+        ensures { result ≡ is_prefix (lists_of self.now i) first.now }
+    {
+        is_cigar_prefix(self.list(i).as_slice(), first.as_slice())
+    }
+
+    // The list of record i is smaller than that of record j.
+    pub fn is_smaller(&self, i: usize, j: usize) -> bool
+        requires in_side { i < length self.now.clipped.now }
+        requires other_in_side { j < length self.now.clipped.now }
+        ensures { result ≡ smaller (lists_of self.now i) (lists_of self.now j) }
+    {
+        is_cigar_smaller(self.list(i).as_slice(), self.list(j).as_slice())
+    }
 }

@@ -13,6 +13,6 @@ unfolding strand_text
 returns-clause-stored c =
     let args = c.args in
     let line : ℕ → List ℕ → List ℕ = λ letter column. line_text (args.side ∷ letter ∷ []) (take args.n column) in
-    let last = stored_then (line 68 args.depths.now) (line 69 args.errors.now) _ _ c.write_short_line-at_errors.ensures.stored c.write_short_line.ensures.stored in
-    let later = stored_then (line 81 args.quals.now) (line 68 args.depths.now ++ line 69 args.errors.now) _ _ c.write_byte_line-at_depths.ensures.stored last in
+    let last = stored_then (line 68 args.depths.now) (line 69 args.errors.now) _ _ c.write_line-at_errors.ensures.stored c.write_line.ensures.stored in
+    let later = stored_then (line 81 args.quals.now) (line 68 args.depths.now ++ line 69 args.errors.now) _ _ c.write_line-at_depths.ensures.stored last in
     stored_then (line_with (args.side ∷ 66 ∷ []) (32 ∷ take args.n args.bases.now)) (line 81 args.quals.now ++ (line 68 args.depths.now ++ line 69 args.errors.now)) args.output.now args.to c.write_bases-at_quals.ensures.stored later

@@ -1,25 +1,27 @@
--- The line by the kind; the kinds before it are excluded one by one.
-use borrow.Author.Tests.{eq-eqb, ne_eqb}
+-- The line by the ending.
 use Rattle.answer_text.specs.FamilyText.{ending_text}
 use Rattle.answer_text.proofs.family_answer.write_ending.Goals as goal
 
--- The line by the kind; the kinds before it are excluded one by one.
-pub returns-then-ending-eq-CALLED-clause-stored : goal.returns-then-ending-eq-CALLED-clause-stored
+pub returns-in-Called-clause-stored : goal.returns-in-Called-clause-stored
 unfolding ending_text
-returns-then-ending-eq-CALLED-clause-stored c = rw (eq-eqb _ _ c.if-ending-eq-CALLED.true) c.write_line.ensures.stored
+returns-in-Called-clause-stored c = rw c.in-Called.is c.write_line.ensures.stored
 
-pub returns-then-ending-eq-EMPTY-clause-stored : goal.returns-then-ending-eq-EMPTY-clause-stored
+pub returns-in-Empty-clause-stored : goal.returns-in-Empty-clause-stored
 unfolding ending_text
-returns-then-ending-eq-EMPTY-clause-stored c = rw (ne_eqb _ _ c.if-ending-eq-CALLED.false, eq-eqb _ _ c.if-ending-eq-EMPTY.true) c.write_line-then-ending-eq-EMPTY.ensures.stored
+returns-in-Empty-clause-stored c = rw c.in-Empty.is c.write_line-in-Empty.ensures.stored
 
-pub returns-then-ending-eq-NO_STRAND-clause-stored : goal.returns-then-ending-eq-NO_STRAND-clause-stored
+pub returns-in-NoStrand-clause-stored : goal.returns-in-NoStrand-clause-stored
 unfolding ending_text
-returns-then-ending-eq-NO_STRAND-clause-stored c = rw (ne_eqb _ _ c.if-ending-eq-CALLED.false, ne_eqb _ _ c.if-ending-eq-EMPTY.false, eq-eqb _ _ c.if-ending-eq-NO_STRAND.true) c.write_line-then-ending-eq-NO_STRAND.ensures.stored
+returns-in-NoStrand-clause-stored c = rw c.in-NoStrand.is c.write_line-in-NoStrand.ensures.stored
 
-pub returns-then-ending-eq-REJECTED-clause-stored : goal.returns-then-ending-eq-REJECTED-clause-stored
+pub returns-in-Rejected-clause-stored : goal.returns-in-Rejected-clause-stored
 unfolding ending_text
-returns-then-ending-eq-REJECTED-clause-stored c = rw (ne_eqb _ _ c.if-ending-eq-CALLED.false, ne_eqb _ _ c.if-ending-eq-EMPTY.false, ne_eqb _ _ c.if-ending-eq-NO_STRAND.false, eq-eqb _ _ c.if-ending-eq-REJECTED.true) c.write_line-then-ending-eq-REJECTED.ensures.stored
+returns-in-Rejected-clause-stored c = rw (c.in-Rejected.is, ← c.from.ensures) c.write_line-in-Rejected.ensures.stored
 
-pub returns-clause-stored : goal.returns-clause-stored
+pub returns-in-Disagreeing-clause-stored : goal.returns-in-Disagreeing-clause-stored
 unfolding ending_text
-returns-clause-stored c = rw (ne_eqb _ _ c.if-ending-eq-CALLED.false, ne_eqb _ _ c.if-ending-eq-EMPTY.false, ne_eqb _ _ c.if-ending-eq-NO_STRAND.false, ne_eqb _ _ c.if-ending-eq-REJECTED.false) c.write_line-2.ensures.stored
+returns-in-Disagreeing-clause-stored c = rw (c.in-Disagreeing.is) (rw c.from-in-Disagreeing.ensures at c.write_line-in-Disagreeing.ensures.stored)
+
+pub returns-in-Refused-clause-stored : goal.returns-in-Refused-clause-stored
+unfolding ending_text
+returns-in-Refused-clause-stored c = rw (c.in-Refused.is, ← c.from-in-Refused.ensures) c.write_line-in-Refused.ensures.stored

@@ -1,26 +1,14 @@
--- Each number after what is stored of those before it; 64 bits are below 10^20.
-use native.Mathlib.Omega.{arith}
-use lib.ListN.{get_or}
-use Rattle.table_text.proofs.Storing.{storing_none, storing_more, storing_all}
-use Rattle.answer_text.specs.Line.{fields_text}
-use Rattle.answer_text.proofs.Lines.{field_short}
+-- Each field after what is stored of those before it.
+use Rattle.std.proofs.Common.{arith}
+use Rattle.table_text.proofs.Stores.{none_stored}
+use Rattle.answer_text.proofs.Lines.{fields_stored}
+use Rattle.answer_text.specs.Line.{fields_by}
 use Rattle.answer_text.proofs.line.write_fields.Goals as goal
 
-pub loop-i-init : goal.loop-i-init
-loop-i-init c = (omega arith, storing_none _ 21 _ _)
+pub loop-n-init : goal.loop-n-init
+unfolding fields_by
+loop-n-init g c = (none_stored _ _, omega arith)
 
--- the number that is read has 64 bits
-pub write_field-end-requires : goal.write_field-end-requires
-write_field-end-requires c =
-    let at = c.loop-i in
-    let short = field_short 19 (get_or c.args.numbers.now at.i 0) (omega (arith, c.type_inv.numbers at.i)) in
-    omega (arith, short, at.invariant.1.within, at.invariant.1.size)
-
-pub loop-i-preserved : goal.loop-i-preserved
-loop-i-preserved c =
-    let at = c.loop-i in
-    (omega arith, storing_more _ 21 _ _ at.invariant.1 c.write_field-end.ensures (field_short 19 (get_or c.args.numbers.now at.i 0) (omega (arith, c.type_inv.numbers at.i))))
-
-pub returns-clause-stored : goal.returns-clause-stored
-unfolding fields_text
-returns-clause-stored c = (storing_all _ 21 c.loop-i.invariant.1 c.loop-i.invariant.0 c.loop-i-test.false).0
+pub loop-n-preserved : goal.loop-n-preserved
+loop-n-preserved g c =
+    fields_stored g.N.Field.number c.args.numbers.now c.loop-n.n-index g.N.Field.widest c.n-item.result c.args.output.now c.args.to c.loop-n-test.true c.n-item.is (rw c.number.ensures.value at c.number.ensures.narrow) c.loop-n.invariant (rw c.number.ensures.value at c.write_field-end.ensures)

@@ -1,11 +1,9 @@
-use Prim.Native.Nat.{◌-◌, ◌≤◌}
-use lib.ListN.{length}
-use Rattle.table_text.proofs.Storing.{Storing}
-use Rattle.answer_text.proofs.Lines.{field_at}
+use Prim.Native.Nat.{◌+◌, ◌*◌, ◌≤◌}
+use lib.ListN.{take}
+use Rattle.table_text.specs.OutputTable.{Stored}
+use Rattle.answer_text.specs.Line.{fields_by}
 use Rattle.answer_text.proofs.line.write_fields.Given as goal
 
-abbrev pub invariant-loop-i : goal.invariant-loop-i
-invariant-loop-i l = (l.i ≤ length l.numbers) × Storing (field_at l.numbers) 21 l.initial.output l.to l.output l.end l.i
-
-abbrev pub decreases-loop-i : goal.decreases-loop-i
-decreases-loop-i l = length l.numbers - l.i
+abbrev pub invariant-loop-n : goal.invariant-loop-n
+invariant-loop-n g l =
+    Stored (fields_by g.N.Field.number (take l.n-index l.numbers)) l.initial.output l.to l.output l.end × (l.end ≤ l.to + g.N.Field.widest * l.n-index)

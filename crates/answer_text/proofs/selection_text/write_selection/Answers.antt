@@ -14,13 +14,12 @@ flag-byte : (b : Bool) → bool_byte b ≡ flag_number b
 flag-byte true = refl
 flag-byte false = refl
 
--- The variant decides which lines are written.
 pub returns-in-Kept-clause-stored : goal.returns-in-Kept-clause-stored
 unfolding decision_text
 returns-in-Kept-clause-stored c =
     let s = c.args.selection in
     let text = stored_then (line_text (bytes_of "S kept") _) (line_text (bytes_of "K1") s.r1 ++ line_text (bytes_of "K2") s.r2) c.args.output.now c.args.to c.write_line-at_sides.ensures.stored c.write_sides.ensures.stored in
-    rw (c.in-Kept.is, ← flag-byte) text
+    rw (c.in-Kept.is, ← flag-byte, ← c.from.ensures) text
 
 pub returns-in-Empty-clause-stored : goal.returns-in-Empty-clause-stored
 unfolding decision_text
@@ -28,8 +27,8 @@ returns-in-Empty-clause-stored c = rw (c.in-Empty.is) c.write_line.ensures.store
 
 pub returns-in-Rejected-clause-stored : goal.returns-in-Rejected-clause-stored
 unfolding decision_text
-returns-in-Rejected-clause-stored c = rw (c.in-Rejected.is, ← c.number.ensures) c.write_line-in-Rejected.ensures.stored
+returns-in-Rejected-clause-stored c = rw (c.in-Rejected.is, ← c.from-in-Rejected.ensures) c.write_line-in-Rejected.ensures.stored
 
 pub returns-in-Refused-clause-stored : goal.returns-in-Refused-clause-stored
 unfolding decision_text
-returns-in-Refused-clause-stored c = rw (c.in-Refused.is) c.write_line-in-Refused.ensures.stored
+returns-in-Refused-clause-stored c = rw (c.in-Refused.is, ← c.from-in-Refused.ensures) c.write_line-in-Refused.ensures.stored

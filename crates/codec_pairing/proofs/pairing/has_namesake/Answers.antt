@@ -1,10 +1,6 @@
--- One is among those asked, or among those left.
-use mathlib.Core.Bool.{Bool, true, false, ◌||◌}
-use mathlib.Core.Path.{◌≡◌, refl, sym, ◌∙◌}
-use Prim.Native.Nat.{◌+◌}
-use native.Mathlib.Omega.{arith}
-use Rattle.codec_pairing.specs.Pairing.{is_namesake}
-use Rattle.codec_pairing.specs.Search.{has_namesake}
+use Rattle.std.proofs.Common.{◌≡◌, ◌+◌, ◌∙◌, sym, Bool, true, false, arith, refl}
+use Rattle.std.specs.Prelude.{◌||◌}
+use Rattle.codec_pairing.specs.Family.{is_namesake, has_namesake}
 use Rattle.codec_pairing.proofs.Namesakes.{asked_more, asked-all}
 use Rattle.codec_pairing.proofs.pairing.has_namesake.Goals as goal
 
@@ -17,13 +13,14 @@ none_left true = refl
 none_left false = refl
 
 pub loop-k-preserved : goal.loop-k-preserved
-unfolding is_namesake
 loop-k-preserved c =
-    let args = c.args in
+    let f = c.args.family.now in
+    let name = c.args.name in
     let k = c.loop-k.k in
-    (omega arith, omega arith, c.loop-k.invariant.2 ∙ rw (asked_more args.flags.now args.names.now args.name args.from args.to k (omega arith), c.is_remaining.ensures) (one_more c.loop-k.any (is_namesake args.flags.now args.names.now args.name k) (has_namesake args.flags.now args.names.now args.name (k + 1) args.to)))
+    c.loop-k.invariant
+    ∙ rw (asked_more f.flags.now f.names.now name c.args.from c.args.to k (omega arith), c.is_namesake-any.ensures) (one_more c.loop-k.any (is_namesake f name k) (has_namesake f name (k + 1) c.args.to))
 
 pub returns : goal.returns
 returns c =
-    let args = c.args in
-    sym (c.loop-k.invariant.2 ∙ rw (asked-all args.flags.now args.names.now args.name args.from args.to c.loop-k.k (omega arith)) (none_left c.loop-k.any))
+    let f = c.args.family.now in
+    sym (c.loop-k.invariant ∙ rw (asked-all f.flags.now f.names.now c.args.name c.args.from c.args.to c.loop-k.k (omega arith)) (none_left c.loop-k.any))

@@ -1,10 +1,7 @@
-use mathlib.Core.Path.{◌≡◌}
-use Prim.Native.Nat.{◌≤◌}
-use Rattle.codec_pairing.specs.Pairing.{namesakes_from}
+-- No record of the name that remains stands between record k and record i.
+use Rattle.std.proofs.Common.{◌≡◌}
+use Rattle.codec_pairing.specs.Family.{name_of, namesakes_from}
 use Rattle.codec_pairing.proofs.pairing.previous_namesake.Given as goal
 
 abbrev pub invariant-loop-k : goal.invariant-loop-k
-invariant-loop-k l = (l.k ≤ l.i) × (namesakes_from l.flags l.names l.name l.k ≡ namesakes_from l.flags l.names l.name l.i)
-
-abbrev pub decreases-loop-k : goal.decreases-loop-k
-decreases-loop-k l = l.k
+invariant-loop-k l = namesakes_from l.family (name_of l.family l.i) l.k ≡ namesakes_from l.family (name_of l.family l.i) l.i

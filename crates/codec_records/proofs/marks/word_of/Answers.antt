@@ -1,36 +1,32 @@
--- The loop has the word of the flags from place i on.
-use mathlib.Core.Bool.{false}
-use mathlib.Core.Path.{◌≡◌}
-use Prim.Native.Nat.{◌+◌, ◌-◌, ◌^◌, ◌<◌}
-use native.Mathlib.Omega.{arith}
-use lib.ListN.{get_or, drop, length-drop}
-use lib.Seq.{drop-length}
+-- With a flag still to come the word has at most 63 bits.
+use Rattle.std.proofs.Common.{◌≡◌, ◌≤◌, ◌^◌, ◌<◌, ◌∷◌, ◌++◌, [], ap, sym, ◌∙◌, refl, arith, rules, length, length-append, append_assoc}
+use Rattle.std.proofs.lemmas.List.{append-nil}
 use Rattle.codec_records.specs.Marks.{word_of}
-use Rattle.codec_records.proofs.Words.{bit_below, word_more, word_fits}
+use Rattle.codec_records.proofs.Words.{bit_below, bit_of, word_fits}
 use Rattle.codec_records.proofs.marks.word_of.Goals as goal
-use Rattle.codec_records.proofs.marks.word_of.Goals.{In-loop-i}
+use Rattle.codec_records.proofs.marks.word_of.Goals.{In-Some}
 
-pub loop-i-init : goal.loop-i-init
+pub loop-flag-init : goal.loop-flag-init
 unfolding word_of
-loop-i-init c = (omega arith, rw (drop-length c.args.flags.now))
+loop-flag-init c = ([], rw append-nil (search rules), refl)
 
--- with a flag still to come the word has at most 63 bits
-room : (c : In-loop-i) → c.loop-i.word < 2 ^ 63
+room : (c : In-Some) → c.loop-flag.word < 2 ^ 63
 room c =
-    let flags = c.args.flags.now in
-    let i = c.loop-i.i in
-    rw c.loop-i.invariant.1 (word_fits (drop i flags) 63 (rw length-drop (omega (arith, c.requires))))
+    let done = c.loop-flag.invariant.0 in
+    let all = ap length c.loop-flag.invariant.1 in
+    rw c.loop-flag.invariant.2 (word_fits done 63 (omega (arith, simp (c.in-Some.ensures.steps, length-append) at all, c.requires)))
 
 pub overflow_mul-word : goal.overflow_mul-word
 overflow_mul-word c = omega (arith, room c)
 
 pub overflow_add-word : goal.overflow_add-word
-overflow_add-word c = omega (arith, room (goal.at.overflow_add-word c).In-loop-i, c.bit_of.ensures, bit_below (get_or c.args.flags.now (c.loop-i.i - 1) false))
+overflow_add-word c = omega (arith, room (goal.at.overflow_add-word c).In-Some, bit_below c.in-Some.field-0.now, rw bit_of at c.from.ensures)
 
-pub loop-i-preserved : goal.loop-i-preserved
-loop-i-preserved c =
-    let flags = c.args.flags.now in
-    let i = c.loop-i.i in
-    let place : i - 1 + 1 ≡ i = omega arith in
-    let more = rw place at (word_more flags (i - 1) (omega arith)) in
-    (omega arith, omega (arith, more, c.loop-i.invariant.1, c.bit_of.ensures))
+pub loop-flag-preserved : goal.loop-flag-preserved
+unfolding word_of
+loop-flag-preserved c =
+    let done = c.loop-flag.invariant.0 in (
+      c.in-Some.field-0.now ∷ done,
+      rw (c.in-Some.ensures.steps, append_assoc) at c.loop-flag.invariant.1,
+      omega (arith, rw bit_of at c.from.ensures, c.loop-flag.invariant.2),
+    )

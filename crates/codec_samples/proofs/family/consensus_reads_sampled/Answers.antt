@@ -12,11 +12,11 @@ returns-then-is_above c = λ rs words size chosen. rw c.report.ensures (sampled_
 pub keep_books-requires-clause-addable : goal.keep_books-requires-clause-addable
 keep_books-requires-clause-addable c = λ goes_on.
     let whole : length c.args.samples.now ≡ 1920 = search rules in
-    addable_to_both _ c.args.sample c.args.ledger c.args.samples.now whole (omega arith) c.ledger_in-own.result c.ledger_in-own.ensures c.deciding_ledger-deciding.result c.deciding_ledger-deciding.ensures _ _ c.consensus_reads_raw-answer.result
+    addable_to_both _ c.args.sample c.args.ledger c.args.samples.now whole (omega arith) c.read_sample-own.result c.read_sample-own.ensures c.deciding_ledger-deciding.result c.deciding_ledger-deciding.ensures _ _ c.consensus_reads_raw-answer.result
     (c.consensus_reads_raw-answer.ensures c.requires.records c.requires.ops c.requires.size c.requires.selected) goes_on
 
 pub returns : goal.returns
 returns c = λ rs words size chosen.
     let whole : length c.args.samples.now ≡ 1920 = search rules in
-    books_kept _ c.args.sample c.args.ledger c.args.samples.now whole (omega arith) c.ledger_in-own.result c.ledger_in-own.ensures c.deciding_ledger-deciding.result c.deciding_ledger-deciding.ensures _ _ c.consensus_reads_raw-answer.result
+    books_kept _ c.args.sample c.args.ledger c.args.samples.now whole (omega arith) c.read_sample-own.result c.read_sample-own.ensures c.deciding_ledger-deciding.result c.deciding_ledger-deciding.ensures _ _ c.consensus_reads_raw-answer.result
     (c.consensus_reads_raw-answer.ensures rs words size chosen) c.keep_books.result _ c.keep_books.ensures.value c.keep_books.ensures.samples_after

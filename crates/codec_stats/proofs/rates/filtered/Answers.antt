@@ -1,11 +1,10 @@
 -- Refusal 10 leaves no reason above 2^41.
-use Rattle.codec_stats.specs.Ledger.{filtered}
-use Rattle.codec_stats.proofs.Small.{small}
+use Rattle.std.proofs.Common.{◌<◌, ◌^◌, sum, rules}
+use Rattle.codec_stats.proofs.Small.{reasons_fit}
 use Rattle.codec_stats.proofs.rates.filtered.Goals as goal
 
-pub sum-requires : goal.sum-requires
-sum-requires c = (small c.args.ledger c.requires).reasons
-
-pub returns : goal.returns
-unfolding filtered
-returns c = c.sum.ensures
+pub sum-requires-clause-fits : goal.sum-requires-clause-fits
+sum-requires-clause-fits c =
+    let ledger = c.args.ledger in
+    let fits : sum ledger.reasons < 2 ^ 64 = reasons_fit ledger (search rules) c.requires in
+    search rules

@@ -1,14 +1,9 @@
--- Refusal 10, then 11, by what the callees ensure.
-use Rattle.codec_stats.specs.Ledger.{of_counts}
+use Rattle.std.proofs.Common.{◌∙◌, ap}
+use Rattle.codec_stats.proofs.Checked.{refusal_of, refusal_of_checked}
 use Rattle.codec_stats.proofs.refusals.ledger_refusal.Goals as goal
 
-pub returns : goal.returns
-unfolding of_counts
-returns c =
-    rw (
-      c.or_else.ensures,
-      c.refused_if-too_large.ensures,
-      c.refused_if-full.ensures,
-      c.is_too_large.ensures,
-      c.is_full.ensures,
-    )
+pub returns-in-Ok : goal.returns-in-Ok
+returns-in-Ok c = ap refusal_of c.in-Ok.ensures ∙ refusal_of_checked c.args.ledger
+
+pub returns-in-Err : goal.returns-in-Err
+returns-in-Err c = rw c.number.ensures (ap refusal_of c.in-Err.ensures ∙ refusal_of_checked c.args.ledger)

@@ -5,7 +5,7 @@ use mathlib.Core.Path.{◌≡◌, refl, sym, ◌∙◌, ap}
 use Prim.Native.Nat.{ℕ, ◌/◌}
 use lib.Ieee.{Float}
 use lib.ListN.{length}
-use Rattle.lists.specs.Every.{every}
+use Rattle.std.specs.List.{list_all}
 use Rattle.codec_duplex.specs.Columns.{Strand, strand, lengths, columns_fit}
 use Rattle.codec_duplex.specs.Combining.{outcome}
 use Rattle.codec_duplex.specs.Duplex.{Duplex, duplex, duplex_lengths}
@@ -50,7 +50,7 @@ module _ (a b : Strand) (before : Duplex) (count : ℕ) (rate : Float) where
 
 -- the two tests of the lengths
 abbrev Even : (a b : Strand) (before : Duplex) → Bool
-Even a b before = every even (pair_lengths a ++ pair_lengths b ++ duplex_pair_lengths before)
+Even a b before = list_all even (pair_lengths a ++ pair_lengths b ++ duplex_pair_lengths before)
 
 abbrev Fit : (a b : Strand) (before : Duplex) → Bool
 Fit a b before = columns_fit (lengths (read a) ++ lengths (read b)) (duplex_lengths (read_duplex before))

@@ -5,7 +5,7 @@ use native.Mathlib.Omega.{arith}
 use borrow.Author.Tests.{eqb-true}
 use lib.ListN.{length, take, get_or, length-append}
 use lib.Seq.{take-suc, take_all}
-use Rattle.lists.proofs.Cases.{and_both}
+use Rattle.std.proofs.lemmas.Bool.{and_parts}
 use Rattle.lists.proofs.Written.{length-written, written_more}
 use Rattle.lists.specs.Total.{total}
 use Rattle.raw_bam.specs.Cigar.{op_code, read_bases, read_length}
@@ -52,7 +52,7 @@ pub overflow_add-last : goal.overflow_add-last
 overflow_add-last c =
     let last = c.loop-i.last in
     let word = c.plain_word-word.result in
-    let both = and_both (is_m last) (is_m word) c.if-last-word.true in
+    let both = and_parts (is_m last) (is_m word) c.if-last-word.true in
     let sum = bases_next c.args.words.now c.loop-i.i {last = last} (omega arith) c.plain_word-word.ensures (eqb-true (op_code word) 0 both.1) (c.loop-i.invariant.6 (eqb-true (op_code last) 0 both.0)) in
     omega (arith, sum.0, sum.1, (accepted (goal.at.overflow_add-last c).At-loop-i).short)
 
@@ -72,7 +72,7 @@ loop-i-preserved c =
     let with-next = plain-next words i done last here made c.loop-i.invariant.5 in
     elim c.if-last-word.branch [
       | then-last-word w ↦ (
-          let both = and_both (is_m last) (is_m word) w.if-last-word.true in
+          let both = and_parts (is_m last) (is_m word) w.if-last-word.true in
           let m = eqb-true (op_code last) 0 both.0 in
           let m' = eqb-true (op_code word) 0 both.1 in
           let longer : joined_word last word ≡ c.if-last-word.last = omega (arith, w.last-is) in (

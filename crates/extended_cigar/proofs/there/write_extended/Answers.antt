@@ -41,10 +41,10 @@ write_word-to-requires c =
     (here.long, omega (arith, here.short), omega (arith, here.bases), omega (arith, here.reference_bases_lem), omega (arith, kept (goal.at.write_word-to-requires c).At-loop-k, here.short, a.few, a.output))
 
 pub overflow_add-i : goal.overflow_add-i
-overflow_add-i c = omega (arith, (inside (goal.at.overflow_add-i c).At-loop-k c.loop-k-test.true).short, c.bases_of-bases.ensures.0)
+overflow_add-i c = omega (arith, (inside (goal.at.overflow_add-i c).At-loop-k c.loop-k-test.true).short, c.bases_of-bases.ensures.read)
 
 pub overflow_add-j : goal.overflow_add-j
-overflow_add-j c = omega (arith, (inside (goal.at.overflow_add-j c).At-loop-k c.loop-k-test.true).reference_bases_lem, c.bases_of-bases.ensures.1)
+overflow_add-j c = omega (arith, (inside (goal.at.overflow_add-j c).At-loop-k c.loop-k-test.true).reference_bases_lem, c.bases_of-bases.ensures.reference)
 
 pub loop-k-preserved : goal.loop-k-preserved
 loop-k-preserved c =
@@ -63,10 +63,10 @@ loop-k-preserved c =
     let next = rw (i, j) at call.ensures.0 in
     let stored = rw (i, j) at call.ensures.1 in (
       omega arith,
-      rw (total_more read_bases words k 0 here) (omega (arith, c.bases_of-bases.ensures.0)),
-      rw (total_more reference_bases words k 0 here) (omega (arith, c.bases_of-bases.ensures.1)),
+      rw (total_more read_bases words k 0 here) (omega (arith, c.bases_of-bases.ensures.read)),
+      rw (total_more reference_bases words k 0 here) (omega (arith, c.bases_of-bases.ensures.reference)),
       rw (more, length-append) (next ∙ omega (arith, to)),
-      omega (arith, next, length_word read reference (read_length (take k words)) (reference_length (take k words)) (get_or words k 0), c.bases_of-bases.ensures.0),
+      omega (arith, next, length_word read reference (read_length (take k words)) (reference_length (take k words)) (get_or words k 0), c.bases_of-bases.ensures.read),
       stored ∙ rw (c.loop-k.invariant.5, to, more) (rw zero-add at (sets_append args.output.now 0 done (extended_word read reference (read_length (take k words)) (reference_length (take k words)) (get_or words k 0)))),
     )
 

@@ -4,7 +4,7 @@ use Rattle.sheet_text.proofs.Front.{sheet_front}
 use Rattle.family_calls.proofs.passes.write_samples.Goals as goal
 
 pub slice_bounds-write_out-end : goal.slice_bounds-write_out-end
-slice_bounds-write_out-end g c = rw c.write_sheet.ensures.output_after (sheet_front _ _ _ (sym c.write_sheet.ensures.value ∙ c.in-Written.is)).0
+slice_bounds-write_out-end g c = rw c.write_sheet.ensures.output_after (sheet_front _ _ _ (sym c.write_sheet.ensures.value ∙ c.in-Ok.is)).0
 
-pub slice_bounds-write_out-end-in-Written : goal.slice_bounds-write_out-end-in-Written
-slice_bounds-write_out-end-in-Written g c = rw c.write_sheet.ensures.output_after (sheet_front _ _ _ (sym c.write_sheet.ensures.value ∙ c.in-Written.is)).1
+pub slice_bounds-write_out-end-in-Ok : goal.slice_bounds-write_out-end-in-Ok
+slice_bounds-write_out-end-in-Ok g c = rw c.write_sheet.ensures.output_after (sheet_front _ _ _ (sym c.write_sheet.ensures.value ∙ c.in-Ok.is)).1

@@ -1,17 +1,16 @@
 -- Nothing of a family that was called; else how it ended, and its records.
-use borrow.Author.Tests.{eq-eqb, ne_eqb}
 use Rattle.table_text.proofs.Stores.{none_stored, stored_then}
 use Rattle.handover_text.specs.Handover.{ended_text, rejections_text, handover_text}
+use Rattle.handover_text.proofs.Names.{uncalled}
 use Rattle.handover_text.proofs.handover.write_handover.Goals as goal
 
--- Nothing of a family that was called; else how it ended, and its records.
-pub returns-then-ending-eq-CALLED-clause-stored : goal.returns-then-ending-eq-CALLED-clause-stored
+pub returns-in-Called-clause-stored : goal.returns-in-Called-clause-stored
 unfolding handover_text
-returns-then-ending-eq-CALLED-clause-stored c = rw (eq-eqb _ _ c.if-ending-eq-CALLED.true) (none_stored c.args.output.now c.args.to)
+returns-in-Called-clause-stored c = rw c.in-Called.is (none_stored c.args.output.now c.args.to)
 
 pub returns-clause-stored : goal.returns-clause-stored
 unfolding handover_text
 returns-clause-stored c =
     let args = c.args in
     let both = stored_then (ended_text args.family args.answer.ending) (rejections_text args.family args.answer.listed args.listed.now args.reasons.now) args.output.now args.to c.write_ended-at_records.ensures.stored c.write_rejections.ensures.stored in
-    rw (ne_eqb _ _ c.if-ending-eq-CALLED.false) both
+    rw (uncalled args.answer.ending c.in_default.not-Called) both

@@ -1,31 +1,37 @@
--- The words by the kind; the kinds before it are excluded one by one.
-use mathlib.Core.List.{[], ◌∷◌}
-use borrow.Author.Tests.{eq-eqb, ne_eqb}
+-- The words by the ending.
+use Rattle.std.proofs.Common.{[], ◌∷◌}
 use Rattle.table_text.specs.Text.{bytes_of}
-use Rattle.table_text.proofs.Stores.{stored_then}
+use Rattle.table_text.proofs.Stores.{none_stored, stored_then}
 use Rattle.answer_text.specs.Line.{fields_text}
-use Rattle.handover_text.specs.Handover.{reason_name, outcome_text}
+use Rattle.caller.specs.Reasons.{name_of}
+use Rattle.caller.specs.declared.reason.RejectionReason.TheVariants.{HighDuplexDisagreement}
+use Rattle.handover_text.specs.Handover.{outcome_text}
 use Rattle.handover_text.proofs.handover.write_outcome.Goals as goal
 
--- The words by the kind; the kinds before it are excluded one by one.
-pub returns-then-ending-eq-EMPTY-clause-stored : goal.returns-then-ending-eq-EMPTY-clause-stored
+pub returns-in-Called-clause-stored : goal.returns-in-Called-clause-stored
 unfolding outcome_text
-returns-then-ending-eq-EMPTY-clause-stored c = rw (eq-eqb _ _ c.if-ending-eq-EMPTY.true) c.write_words.ensures
+returns-in-Called-clause-stored c = rw c.in-Called.is (none_stored c.args.output.now c.args.to)
 
-pub returns-then-ending-eq-NO_STRAND-clause-stored : goal.returns-then-ending-eq-NO_STRAND-clause-stored
+pub returns-in-Empty-clause-stored : goal.returns-in-Empty-clause-stored
 unfolding outcome_text
-returns-then-ending-eq-NO_STRAND-clause-stored c =
-    rw (ne_eqb _ _ c.if-ending-eq-EMPTY.false, eq-eqb _ _ c.if-ending-eq-NO_STRAND.true) c.write_words-then-ending-eq-NO_STRAND.ensures
+returns-in-Empty-clause-stored c = rw c.in-Empty.is c.write_words.ensures
 
-pub returns-then-ending-eq-REJECTED-clause-stored : goal.returns-then-ending-eq-REJECTED-clause-stored
+pub returns-in-NoStrand-clause-stored : goal.returns-in-NoStrand-clause-stored
 unfolding outcome_text
-returns-then-ending-eq-REJECTED-clause-stored c =
-    let both = stored_then (bytes_of " rejected ") (reason_name c.args.ending.number) c.args.output.now c.args.to c.write_words-at_reason.ensures c.write_reason.ensures.stored in
-    rw (ne_eqb _ _ c.if-ending-eq-EMPTY.false, ne_eqb _ _ c.if-ending-eq-NO_STRAND.false, eq-eqb _ _ c.if-ending-eq-REJECTED.true) both
+returns-in-NoStrand-clause-stored c = rw c.in-NoStrand.is c.write_words-in-NoStrand.ensures
 
-pub returns-clause-stored : goal.returns-clause-stored
+pub returns-in-Rejected-clause-stored : goal.returns-in-Rejected-clause-stored
 unfolding outcome_text
-returns-clause-stored c =
-    let numbers = fields_text (c.args.ending.number ∷ c.args.ending.with ∷ []) in
-    let both = stored_then (bytes_of " refused") numbers c.args.output.now c.args.to c.write_words-at_numbers.ensures c.write_fields.ensures.stored in
-    rw (ne_eqb _ _ c.if-ending-eq-EMPTY.false, ne_eqb _ _ c.if-ending-eq-NO_STRAND.false, ne_eqb _ _ c.if-ending-eq-REJECTED.false) both
+returns-in-Rejected-clause-stored c =
+    rw c.in-Rejected.is (stored_then (bytes_of " rejected ") (name_of c.in-Rejected.reason) c.args.output.now c.args.to c.write_words-at_reason.ensures c.write_name.ensures.stored)
+
+pub returns-in-Disagreeing-clause-stored : goal.returns-in-Disagreeing-clause-stored
+unfolding outcome_text
+returns-in-Disagreeing-clause-stored c =
+    rw c.in-Disagreeing.is (stored_then (bytes_of " rejected ") (name_of HighDuplexDisagreement) c.args.output.now c.args.to c.write_words-at_reason-in-Disagreeing.ensures c.write_name-in-Disagreeing.ensures.stored)
+
+pub returns-in-Refused-clause-stored : goal.returns-in-Refused-clause-stored
+unfolding outcome_text
+returns-in-Refused-clause-stored c =
+    let numbers = fields_text (c.in-Refused.number ∷ c.in-Refused.given ∷ []) in
+    rw c.in-Refused.is (stored_then (bytes_of " refused") numbers c.args.output.now c.args.to c.write_words-at_numbers.ensures (rw c.from.ensures at c.write_fields.ensures.stored))

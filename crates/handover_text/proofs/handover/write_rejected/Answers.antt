@@ -14,5 +14,5 @@ returns-clause-stored c =
     let args = c.args in
     let text = fields_text (args.family ∷ args.listed ∷ []) in
     let name = stored_then (bytes_of " ") (reason_name args.reason) _ _ c.write_words-at_reason.ensures c.write_reason-end.ensures.stored in
-    let fields = stored_then text (bytes_of " " ++ reason_name args.reason) _ _ c.write_fields-at_space.ensures.stored name in
+    let fields = stored_then text (bytes_of " " ++ reason_name args.reason) _ _ (rw c.from.ensures at c.write_fields-at_space.ensures.stored) name in
     line_stored (bytes_of "record") (text ++ (bytes_of " " ++ reason_name args.reason)) args.output.now args.to c.write_words-at_numbers.ensures fields c.end_line.ensures

@@ -1,11 +1,8 @@
-use Prim.Native.Nat.{◌+◌, ◌-◌, ◌≤◌}
+use Prim.Native.Nat.{◌+◌}
 use lib.ListN.{get_or}
 use Rattle.table_text.proofs.Storing.{Storing}
 use Rattle.handover_text.specs.Sheet.{reason_text}
 use Rattle.handover_text.proofs.sheet.write_reason_counts.Given as goal
 
 abbrev pub invariant-loop-i : goal.invariant-loop-i
-invariant-loop-i l = (l.i ≤ 10) × Storing (λ k. reason_text (k + 1) (get_or l.counts k 0)) 47 l.initial.output l.to l.output l.end l.i
-
-abbrev pub decreases-loop-i : goal.decreases-loop-i
-decreases-loop-i l = 10 - l.i
+invariant-loop-i l = Storing (λ k. reason_text (k + 1) (get_or l.counts k 0)) 47 l.initial.output l.to l.output l.end l.i

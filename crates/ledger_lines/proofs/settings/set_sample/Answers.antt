@@ -6,12 +6,12 @@ use Rattle.ledger_lines.specs.Settings.{sample_set}
 use Rattle.ledger_lines.proofs.settings.set_sample.Goals as goal
 
 pub store_sample-requires : goal.store_sample-requires
-store_sample-requires c = omega (arith, number_field_le _ _ _ _ (sym (rw c.in-Value.is at c.read_number.ensures)))
+store_sample-requires c = omega (arith, number_field_le _ _ _ _ (sym (rw c.in-Some.is at c.read_number.ensures)))
 
 pub returns-then-figures : goal.returns-then-figures
 unfolding sample_set
-returns-then-figures c = rw (← c.read_number.ensures, c.in-Value.is, ← c.figures_at-figures.ensures, c.if-figures.true, c.store_sample.ensures, c.ledger_from.ensures)
+returns-then-figures c = rw (← c.read_number.ensures, c.in-Some.is, ← c.figures_at-figures.ensures, c.if-figures.true, c.store_sample.ensures, c.ledger_from.ensures)
 
 pub returns : goal.returns
 unfolding sample_set
-returns c = rw (c.malformed-2.ensures, ← c.read_number.ensures, c.in-Value.is, ← c.figures_at-figures.ensures, c.if-figures.false)
+returns c = rw (c.malformed-2.ensures, ← c.read_number.ensures, c.in-Some.is, ← c.figures_at-figures.ensures, c.if-figures.false)

@@ -5,9 +5,10 @@ use mathlib.Core.Path.{◌≡◌, refl, sym, ◌∙◌, ap}
 use Prim.Native.Nat.{ℕ, ◌+◌, ◌≤◌, ◌<◌}
 use native.Mathlib.Omega.{arith}
 use lib.ListN.{length, get_or, set, drop, replicate, length-append}
+use Rattle.std.specs.Prelude.{Some, None}
 use Rattle.lists.proofs.Written.{written_more}
 use Rattle.table_text.proofs.FieldLists.{fields_none, fields_some}
-use Rattle.table_text.specs.Fields.{read, malformed, fields_from}
+use Rattle.table_text.specs.Fields.{fields_from}
 use Rattle.line_text.specs.Line.{in_front, values_of}
 use Rattle.line_text.specs.Value.{none, value_field}
 use Rattle.line_text.specs.declared.line.Values.{Values}
@@ -21,15 +22,15 @@ stored found done v i size h e = rw (e, ← size) (ap (λ (l : List Value). reco
 
 module _ (line kinds limits : List ℕ) (start at i : ℕ) (done : List Value)
     (so_far : values_of kinds limits (fields_from line start) ≡ in_front done (values_of (drop i kinds) (drop i limits) (fields_from line at))) where
-  goes_on : (v : Value) (after : ℕ) → i < length kinds → i < length limits → read v (fields_from line after) ≡ value_field (get_or kinds i 0) (get_or limits i 0) (fields_from line at)
+  goes_on : (v : Value) (after : ℕ) → i < length kinds → i < length limits → Some (v, fields_from line after) ≡ value_field (get_or kinds i 0) (get_or limits i 0) (fields_from line at)
       → values_of kinds limits (fields_from line start) ≡ in_front (done ++ (v ∷ [])) (values_of (drop (i + 1) kinds) (drop (i + 1) limits) (fields_from line after))
   goes_on v after h k e = so_far ∙ ap (in_front done) (values_next kinds limits i (fields_from line at) (fields_from line after) v h k e) ∙ front_more done (v ∷ []) (values_of (drop (i + 1) kinds) (drop (i + 1) limits) (fields_from line after))
 
-  stops : i < length kinds → i < length limits → malformed ≡ value_field (get_or kinds i 0) (get_or limits i 0) (fields_from line at) → values_of kinds limits (fields_from line start) ≡ malformed
+  stops : i < length kinds → i < length limits → None ≡ value_field (get_or kinds i 0) (get_or limits i 0) (fields_from line at) → values_of kinds limits (fields_from line start) ≡ None
   stops h k e = so_far ∙ ap (in_front done) (values_stop kinds limits i (fields_from line at) h k e)
 
-  ended : length kinds ≤ i → values_of kinds limits (fields_from line start) ≡ read done (fields_from line at)
-  ended h = so_far ∙ ap (in_front done) (values_end kinds limits i (fields_from line at) h) ∙ ap (λ (l : List Value). read l (fields_from line at)) (append-nil done)
+  ended : length kinds ≤ i → values_of kinds limits (fields_from line start) ≡ Some (done, fields_from line at)
+  ended h = so_far ∙ ap (in_front done) (values_end kinds limits i (fields_from line at) h) ∙ ap (λ (l : List Value). Some (l, fields_from line at)) (append-nil done)
 
 pub loop-i-init : goal.loop-i-init
 loop-i-init c = ([], refl, omega arith, c.malformed-found.ensures, sym (front_none _))

@@ -8,13 +8,14 @@ use borrow.Author.Tests.{eq-eqb, ne_eqb}
 use lib.Dec.{eqb}
 use lib.ListN.{length, get_or, drop}
 use lib.Seq.{length-take-le, drop-cons}
+use Rattle.std.specs.Prelude.{Some, None}
 use Rattle.table_text.specs.Bytes.{index_of}
 use Rattle.table_text.proofs.FieldLists.{fields_whole, fields_next}
-use Rattle.table_text.specs.Fields.{read, malformed, fields_from, fields_of}
+use Rattle.table_text.specs.Fields.{fields_from, fields_of}
 use Rattle.line_text.specs.Line.{pair_field}
 use Rattle.line_text.proofs.line.read_pair.Goals as goal
 
-not-two : (a b : ℕ) (field : List ℕ) (rest : List (List ℕ)) → (length field ≡ 2 → ⊥) → malformed ≡ pair_field a b (field ∷ rest)
+not-two : (a b : ℕ) (field : List ℕ) (rest : List (List ℕ)) → (length field ≡ 2 → ⊥) → None ≡ pair_field a b (field ∷ rest)
 unfolding pair_field
 not-two a b [] rest h = refl
 not-two a b (x ∷ []) rest h = refl
@@ -22,10 +23,10 @@ not-two a b (x ∷ y ∷ []) rest h = absurd (h refl)
 not-two a b (x ∷ y ∷ z ∷ zs) rest h = refl
 
 module _ (a b : ℕ) (line : List ℕ) (end : ℕ) (is : end ≡ 0 + index_of 32 (drop 0 line)) (h : end ≤ length line) where
-  other : (end ≡ 2 → ⊥) → malformed ≡ pair_field a b (fields_of line)
+  other : (end ≡ 2 → ⊥) → None ≡ pair_field a b (fields_of line)
   other n = rw (fields_whole line, fields_next line 0 end (omega arith) is h) (not-two a b _ _ (λ e. n (omega (arith, e, length-take-le (end - 0) (drop 0 line) (omega arith)))))
 
-  two : end ≡ 2 → pair_field a b (fields_of line) ≡ cond (eqb (get_or line 0 0) a) (cond (eqb (get_or line 1 0) b) (read (get_or line 0 0) (fields_from line 3)) malformed) malformed
+  two : end ≡ 2 → pair_field a b (fields_of line) ≡ cond (eqb (get_or line 0 0) a) (cond (eqb (get_or line 1 0) b) (Some (get_or line 0 0, fields_from line 3)) None) None
   unfolding pair_field
   two e = rw (fields_whole line, fields_next line 0 end (omega arith) is h, e, drop-cons line 0 0 (omega arith), drop-cons line 1 0 (omega arith))
 

@@ -8,23 +8,24 @@ use borrow.Author.Tests.{eq-eqb, ne_eqb}
 use lib.Dec.{eqb}
 use lib.ListN.{length, get_or, drop}
 use lib.Seq.{length-take-le, drop-cons}
+use Rattle.std.specs.Prelude.{Some, None}
 use Rattle.table_text.specs.Bytes.{index_of}
 use Rattle.table_text.proofs.FieldLists.{fields_whole, fields_next}
-use Rattle.table_text.specs.Fields.{read, malformed, fields_from, fields_of}
+use Rattle.table_text.specs.Fields.{fields_from, fields_of}
 use Rattle.line_text.specs.Line.{tag_field}
 use Rattle.line_text.proofs.line.read_tag.Goals as goal
 
-not-one : (tag : ℕ) (field : List ℕ) (rest : List (List ℕ)) → (length field ≡ 1 → ⊥) → malformed ≡ tag_field tag (field ∷ rest)
+not-one : (tag : ℕ) (field : List ℕ) (rest : List (List ℕ)) → (length field ≡ 1 → ⊥) → None ≡ tag_field tag (field ∷ rest)
 unfolding tag_field
 not-one tag [] rest h = refl
 not-one tag (b ∷ []) rest h = absurd (h refl)
 not-one tag (b ∷ c ∷ bs) rest h = refl
 
 module _ (tag : ℕ) (line : List ℕ) (end : ℕ) (is : end ≡ 0 + index_of 32 (drop 0 line)) (h : end ≤ length line) where
-  other : (end ≡ 1 → ⊥) → malformed ≡ tag_field tag (fields_of line)
+  other : (end ≡ 1 → ⊥) → None ≡ tag_field tag (fields_of line)
   other n = rw (fields_whole line, fields_next line 0 end (omega arith) is h) (not-one tag _ _ (λ e. n (omega (arith, e, length-take-le (end - 0) (drop 0 line) (omega arith)))))
 
-  one : end ≡ 1 → tag_field tag (fields_of line) ≡ cond (eqb (get_or line 0 0) tag) (read (get_or line 0 0) (fields_from line 2)) malformed
+  one : end ≡ 1 → tag_field tag (fields_of line) ≡ cond (eqb (get_or line 0 0) tag) (Some (get_or line 0 0, fields_from line 2)) None
   unfolding tag_field
   one e = rw (fields_whole line, fields_next line 0 end (omega arith) is h, e, drop-cons line 0 0 (omega arith))
 

@@ -4,10 +4,11 @@ use mathlib.Core.Path.{◌≡◌, sym, ◌∙◌, ap}
 use Prim.Native.Nat.{ℕ, ◌+◌, ◌-◌, ◌≤◌, ◌<◌}
 use native.Mathlib.Omega.{arith}
 use lib.ListN.{length, set, length-append, length-set}
+use Rattle.std.specs.Prelude.{Some, None}
 use Rattle.lists.proofs.Written.{written_more, take-written}
 use Rattle.lists.specs.Written.{written}
 use Rattle.table_text.proofs.FieldLists.{fields_none, fields_some, number_field_le}
-use Rattle.table_text.specs.Fields.{read, malformed, fields_from, number_field}
+use Rattle.table_text.specs.Fields.{fields_from, number_field}
 use Rattle.line_text.specs.Numbers.{numbers_of}
 use Rattle.line_text.specs.Parsed.{parsed, unparsed, after}
 use Rattle.line_text.proofs.Columns.{after_more, numbers_next, numbers_stop, numbers_full, numbers_none}
@@ -15,13 +16,13 @@ use Rattle.line_text.proofs.numbers.read_column.Goals as goal
 
 module _ (line : List ℕ) (start limit room at n : ℕ) (done : List ℕ)
     (so_far : numbers_of room limit (fields_from line start) ≡ after done (numbers_of (room - n) limit (fields_from line at))) where
-  goes_on : (v next : ℕ) → n < room → read v (fields_from line next) ≡ number_field limit (fields_from line at)
+  goes_on : (v next : ℕ) → n < room → Some (v, fields_from line next) ≡ number_field limit (fields_from line at)
       → numbers_of room limit (fields_from line start) ≡ after (done ++ (v ∷ [])) (numbers_of (room - (n + 1)) limit (fields_from line next))
   goes_on v next h e =
       let less : room - n - 1 ≡ room - (n + 1) = omega arith in
       rw (← less) (so_far ∙ ap (after done) (numbers_next (room - n) limit (fields_from line at) (fields_from line next) v (omega arith) e) ∙ after_more done (v ∷ []) (numbers_of (room - n - 1) limit (fields_from line next)))
 
-  stops : at ≤ length line → malformed ≡ number_field limit (fields_from line at) → numbers_of room limit (fields_from line start) ≡ unparsed
+  stops : at ≤ length line → None ≡ number_field limit (fields_from line at) → numbers_of room limit (fields_from line start) ≡ unparsed
   stops inside e =
       let first = fields_some line at inside in
       so_far ∙ rw (first.2, numbers_stop (room - n) limit first.0 first.1 (rw first.2 at e))
@@ -46,19 +47,19 @@ returns-in_default c = (stops _ _ _ _ _ _ _ c.loop-at.invariant.5 c.loop-at-test
 
 pub overflow_cast-column : goal.overflow_cast-column
 overflow_cast-column c =
-    let read = rw c.in-Value.is at c.read_number.ensures in
+    let read = rw c.in-Some.is at c.read_number.ensures in
     omega (arith, number_field_le _ _ _ _ (sym read))
 
 pub loop-at-preserved : goal.loop-at-preserved
 loop-at-preserved c =
     let inv = c.loop-at.invariant in
-    let v = c.in-Value.value in (
+    let v = c.in-Some.value in (
       inv.0 ++ (v ∷ []),
       omega (arith, length-append inv.0 (v ∷ [])),
       omega arith,
       stored _ inv.0 _ v _ inv.1 (omega arith) inv.3,
       omega (arith, inv.4, length-set c.loop-at.column c.loop-at.n v),
-      goes_on _ _ _ _ _ _ _ inv.5 _ _ (omega arith) (rw c.in-Value.is at c.read_number.ensures),
+      goes_on _ _ _ _ _ _ _ inv.5 _ _ (omega arith) (rw c.in-Some.is at c.read_number.ensures),
     )
 
 pub returns : goal.returns

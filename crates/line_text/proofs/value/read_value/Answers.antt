@@ -37,4 +37,4 @@ pub returns-in_default : goal.returns-in_default
 returns-in_default c = sym (first_is _ _ _ c.if-field-eq0.false ∙ rw (ne_eqb _ 45 c.if-field-eq45.false, ← c.read_decimal.ensures, c.in_default.is))
 
 pub returns : goal.returns
-returns c = sym (first_is _ _ _ c.if-field-eq0.false ∙ rw (ne_eqb _ 45 c.if-field-eq45.false, ← c.read_decimal.ensures, c.in-Value.is))
+returns c = sym (first_is _ _ _ c.if-field-eq0.false ∙ rw (ne_eqb _ 45 c.if-field-eq45.false, ← c.read_decimal.ensures, c.in-Some.is))

@@ -16,6 +16,6 @@ returns-then-ended_parts c = sym (lines_unequal c.args.ours.now c.args.theirs.no
 pub returns : goal.returns
 returns c =
     let counted = lines_equal c.args.ours.now c.args.theirs.now c.requires.0 c.requires.1 (sym c.ended_parts.ensures ∙ c.if-ended_parts.false ∙ c.ended_parts-2.ensures) in
-    let our_names = rw c.in-Until.is at c.after_names.ensures in
-    let their_names = rw c.in-Until-after_names.is at c.after_names-2.ensures in
+    let our_names = rw c.in-Some.is at c.after_names.ensures in
+    let their_names = rw c.in-Some-after_names.is at c.after_names-2.ensures in
     c.compare_lines.ensures ∙ sym (counted ∙ same_rows _ _ _ _ our_names.1 their_names.1)

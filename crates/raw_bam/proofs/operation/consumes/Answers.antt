@@ -46,8 +46,14 @@ said-none column code limit i (op ∷ ops) h t =
 
 pub returns-then-code-lt9 : goal.returns-then-code-lt9
 unfolding table right alike consumes_read consumes_reference
-returns-then-code-lt9 c = right-row (op_code c.args.word) (get_or table (op_code c.args.word) (record { read = false; reference = false })) (every_place_at right table (record { read = false; reference = false }) tt (op_code c.args.word) (search rules))
+returns-then-code-lt9 c =
+    let row = right-row (op_code c.args.word) (get_or table (op_code c.args.word) (record { read = false; reference = false })) (every_place_at right table (record { read = false; reference = false }) tt (op_code c.args.word) (search rules)) in
+    record { read = row.0; reference = row.1 }
 
 pub returns-else-code-lt9 : goal.returns-else-code-lt9
 unfolding consumes_read consumes_reference
-returns-else-code-lt9 c = (said-none (λ op. op.query) (op_code c.args.word) 9 0 operations c.if-code-lt9.false tt, said-none (λ op. op.reference) (op_code c.args.word) 9 0 operations c.if-code-lt9.false tt)
+returns-else-code-lt9 c =
+    record {
+      read = said-none (λ op. op.query) (op_code c.args.word) 9 0 operations c.if-code-lt9.false tt;
+      reference = said-none (λ op. op.reference) (op_code c.args.word) 9 0 operations c.if-code-lt9.false tt;
+    }

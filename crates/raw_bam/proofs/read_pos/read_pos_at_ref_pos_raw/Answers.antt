@@ -1,49 +1,47 @@
 use mathlib.Core.List.{[]}
-use mathlib.Core.Path.{◌≡◌, sym, ◌∙◌}
+use mathlib.Core.Path.{◌≡◌, refl, sym, ◌∙◌}
+use Prim.Native.Nat.{◌-◌}
 use native.Mathlib.Numerals.{add-one}
 use native.Mathlib.Omega.{arith}
-use borrow.Author.Rules.{rules}
-use borrow.Author.Tests.{lt-ltb, le-ltb}
-use lib.ListN.{drop, get_or, drop_of_length-le}
+use borrow.Author.Tests.{le-ltb}
+use lib.ListN.{drop, drop_of_length-le}
 use lib.Seq.{take-suc}
 use Rattle.lists.specs.Total.{total}
 use Rattle.lists.proofs.Total.{total_more}
 use Rattle.raw_bam.specs.Cigar.{read_bases}
 use Rattle.raw_bam.specs.ReadPosition.{has_aligned, read_position_at, read_position}
-use Rattle.raw_bam.proofs.Positions.{has_aligned_more, position_here, position_on}
+use Rattle.raw_bam.proofs.Positions.{has_aligned_more, position_here, position_on, position-before}
 use Rattle.raw_bam.proofs.read_pos.read_pos_at_ref_pos_raw.Goals as goal
 
-pub returns-then-position-start : goal.returns-then-position-start
-unfolding read_position
-returns-then-position-start c = simp (lt-ltb _ _ c.if-position-start.true)
+pub returns-in_err-k : goal.returns-in_err-k
+returns-in_err-k c = rw (position-before c.args.ask_last c.args.ops.now c.args.start c.args.position (omega (arith, c.in_err-k.ensures))) c.from_residual.ensures
 
-pub loop-i-init : goal.loop-i-init
-unfolding total has_aligned
-loop-i-init c = search rules
+pub loop-word-init : goal.loop-word-init
+unfolding total has_aligned read_position
+loop-word-init c =
+    let k : c.in_ok-k.k ≡ c.args.position - c.args.start = omega (arith, c.in_ok-k.ensures) in
+    (refl, refl, rw (le-ltb c.args.position c.args.start (omega (arith, c.in_ok-k.ensures)), k), omega arith)
 
 pub returns-then-k-bases : goal.returns-then-k-bases
-unfolding read_position
 returns-then-k-bases c =
-    let ops = c.args.ops.now in
-    let here = position_here c.args.ask_last ops c.loop-i.i c.loop-i.k (omega arith) (omega (arith, c.bases_of-bases.ensures.1)) in
-    rw (le-ltb c.args.position c.args.start (omega arith), ← c.loop-i.invariant.3, here, ← c.loop-i.invariant.1, ← c.loop-i.invariant.2) c.position_inside.ensures
+    let at = c.loop-word in
+    let here = position_here c.args.ask_last c.args.ops.now at.word-index at.k (omega arith) (omega (arith, c.bases_of-bases.ensures.reference)) in
+    rw (← at.invariant.2, here, ← at.invariant.0, ← at.invariant.1) c.position_inside.ensures
 
-pub loop-i-preserved : goal.loop-i-preserved
-loop-i-preserved c =
+pub loop-word-preserved : goal.loop-word-preserved
+loop-word-preserved c =
+    let at = c.loop-word in
     let ops = c.args.ops.now in
-    let word = get_or ops c.loop-i.i 0 in
-    let on = position_on c.args.ask_last ops c.loop-i.i c.loop-i.k (omega arith) (omega (arith, c.bases_of-bases.ensures.1)) in (
-      omega arith,
-      omega (arith, total_more read_bases ops c.loop-i.i 0 (omega arith), c.bases_of-bases.ensures.0),
-      rw (add-one, take-suc ops c.loop-i.i 0 (omega arith), has_aligned_more, ← c.loop-i.invariant.2, ← c.has_aligned_base-aligned.ensures),
-      rw c.bases_of-bases.ensures.1 (sym on ∙ c.loop-i.invariant.3),
+    let on = position_on c.args.ask_last ops at.word-index at.k (omega arith) (omega (arith, c.bases_of-bases.ensures.reference)) in (
+      omega (arith, total_more read_bases ops at.word-index 0 (omega arith), c.bases_of-bases.ensures.read),
+      rw (add-one, take-suc ops at.word-index 0 (omega arith), has_aligned_more, ← at.invariant.1, ← c.has_aligned_base-aligned.ensures),
+      rw c.bases_of-bases.ensures.reference (sym on ∙ at.invariant.2),
       omega arith,
     )
 
 pub returns : goal.returns
-unfolding read_position read_position_at
+unfolding read_position_at
 returns c =
-    let args = c.args in
-    let ops = args.ops.now in
-    let none : drop c.loop-i.i ops ≡ [] = drop_of_length-le ops {i = c.loop-i.i} (omega arith) in
-    rw (le-ltb args.position args.start (omega arith), ← c.loop-i.invariant.3, none)
+    let at = c.loop-word in
+    let none : drop at.word-index c.args.ops.now ≡ [] = drop_of_length-le c.args.ops.now {i = at.word-index} (omega arith) in
+    rw none at at.invariant.2

@@ -1,103 +1,75 @@
-use mathlib.Core.Bool.{cond}
-use mathlib.Core.List.{[], ◌∷◌, ◌++◌, map, map-append, append_assoc}
-use mathlib.Core.Path.{◌≡◌, refl, sym, ◌∙◌, ap}
-use Prim.Native.Nat.{ℕ, ◌+◌, ◌<◌}
+use mathlib.Core.List.{List, [], ◌∷◌, ◌++◌, map, map-append}
+use mathlib.Core.Path.{◌≡◌, refl, sym, ◌∙◌, ap, ap₂}
+use Prim.Native.Nat.{ℕ, ◌+◌, ◌-◌, ◌*◌, ◌/◌, ◌<◌}
 use native.Mathlib.Numerals.{add-one}
 use native.Mathlib.Omega.{arith}
-use borrow.Author.Tests.{eq-eqb, ne_eqb}
-use lib.ListN.{length, take, length-append, length-set}
-use lib.Seq.{take-suc, take_all}
-use Rattle.lists.proofs.Written.{length-written, written_more}
-use lib.Dec.{eqb}
+use lib.ListN.{length, get_or, set, take}
+use lib.Seq.{take-suc, take_all, get_or-set_same}
+use Rattle.lists.specs.Written.{written}
 use Rattle.raw_bam.specs.Cigar.{op_code}
-use Rattle.raw_bam.specs.Simplified.{simple_entry, joined_word, prepend, joined}
-use Rattle.raw_bam.proofs.Joining.{joined_more}
-use Rattle.raw_bam.proofs.InOrder.{in_order, length-in_order, simplified-in_order, simplified-none, entry_read}
+use Rattle.raw_bam.specs.Simplified.{simple_entry, joined_word, joined, simplified}
+use Rattle.raw_bam.proofs.InOrder.{in_order, length-in_order, simplified-in_order, entry_read}
+use Rattle.raw_bam.proofs.Joining.{joins_last, begins_entry}
 use Rattle.raw_bam.proofs.simplified.simplify_cigar_from_raw.Goals as goal
-use Rattle.raw_bam.proofs.simplified.simplify_cigar_from_raw.Goals.{After-simple_entry-entry, At-loop-i, then-last-entry, else-last-entry}
+use Rattle.raw_bam.proofs.simplified.simplify_cigar_from_raw.Goals.{After-simple_entry-entry, After-loop-i, then-n-gt0+then-entries-n, else-n-gt0, else-n-gt0-via-then-n-gt0+else-entries-n, else-n-gt0-via-else-n-gt0}
 
--- as long as it was lent
-kept : (c : At-loop-i) → length c.loop-i.entries ≡ length c.args.entries.now
-kept c = ap length c.loop-i.invariant.4 ∙ length-written c.loop-i.invariant.0 _ (omega (arith, c.requires))
+-- the entries of the operations passed, and of the next one
+abbrev passed : After-simple_entry-entry → List ℕ
+passed c = map simple_entry (take c.loop-i.i (in_order c.args.reverse c.args.ops.now))
 
--- what the operations join to with the next one
-next : (c : After-simple_entry-entry)
-    → joined (map simple_entry (take (c.loop-i.i + 1) (in_order c.args.reverse c.args.ops.now)))
-    ≡ c.loop-i.invariant.0 ++ cond (eqb (op_code c.loop-i.last) (op_code c.simple_entry-entry.result)) (joined_word c.loop-i.last c.simple_entry-entry.result ∷ []) (c.loop-i.last ∷ c.simple_entry-entry.result ∷ [])
+next : (c : After-simple_entry-entry) → map simple_entry (take (c.loop-i.i + 1) (in_order c.args.reverse c.args.ops.now)) ≡ passed c ++ (c.simple_entry-entry.result ∷ [])
 next c =
-    let args = c.args in
-    let xs = in_order args.reverse args.ops.now in
-    let here : c.loop-i.i < length xs = omega (arith, length-in_order args.reverse args.ops.now) in
-    let z = entry_read args.reverse args.ops.now c.loop-i.i _ _ (omega arith) c.place-in-loop-i.ensures.0 c.simple_entry-entry.ensures.0 in
-    rw (add-one c.loop-i.i, take-suc xs c.loop-i.i 0 here, map-append, z)
-    (joined_more (map simple_entry (take c.loop-i.i xs)) c.simple_entry-entry.result c.loop-i.invariant.0 c.loop-i.last c.loop-i.invariant.5)
-
-pub returns-then-count-eq0 : goal.returns-then-count-eq0
-returns-then-count-eq0 c = let e = simplified-none c.args.reverse c.args.ops.now c.if-count-eq0.true in (rw e, rw e)
+    let xs = in_order c.args.reverse c.args.ops.now in
+    let here : c.loop-i.i < length xs = omega (arith, length-in_order c.args.reverse c.args.ops.now) in
+    rw (add-one c.loop-i.i, take-suc xs c.loop-i.i 0 here, map-append, entry_read c.args.reverse c.args.ops.now c.loop-i.i _ _ (omega arith) c.place.ensures.value c.simple_entry-entry.ensures.value)
 
 pub loop-i-init : goal.loop-i-init
-unfolding joined prepend
-loop-i-init c =
-    let args = c.args in
-    let ops = args.ops.now in
-    let first = entry_read args.reverse ops 0 _ _ (omega arith) c.place.ensures.0 c.simple_entry-last.ensures.0 in
-    let one = take-suc (in_order args.reverse ops) 0 0 (omega (arith, length-in_order args.reverse ops)) in
-    ([], omega arith, omega arith, refl, refl, rw (one, first), omega arith)
-
-pub offset_bounds-entries-n : goal.offset_bounds-entries-n
-offset_bounds-entries-n c = omega (arith, c.requires)
-
-pub bounds-entries-n : goal.bounds-entries-n
-bounds-entries-n c = omega (arith, kept (goal.at.bounds-entries-n c).At-loop-i, c.requires)
+unfolding joined
+loop-i-init c = (refl, omega arith, refl, λ some. absurd (omega arith))
 
 pub loop-i-preserved : goal.loop-i-preserved
 loop-i-preserved c =
-    let args = c.args in
-    let done = c.loop-i.invariant.0 in
-    let last = c.loop-i.last in
+    let here = (goal.at.loop-i-preserved c).After-simple_entry-entry in
+    let at = c.loop-i in
+    let old = c.args.entries.now in
     let entry = c.simple_entry-entry.result in
-    let with-next = next (goal.at.loop-i-preserved c).After-simple_entry-entry in
-    elim c.if-last-entry.branch [
-      | then-last-entry w ↦ (
-          let same = eq-eqb (op_code last) (op_code entry) w.if-last-entry.true in
-          let longer : joined_word last entry ≡ c.if-last-entry.last = omega (arith, w.last-is) in (
-            done,
+    let last = get_or at.entries (at.n - 1) 0 in
+    let held : last ≡ get_or (written (joined (passed here)) old) (at.n - 1) 0 = ap (λ (col : List ℕ). get_or col (at.n - 1) 0) at.invariant.2 in
+    elim c.if-n-gt0.branch [
+      | then-n-gt0+then-entries-n w ↦ (
+          let longer : last + entry / 16 * 16 ≡ joined_word last entry = omega arith in
+          let joins = joins_last (passed here) old entry at.n at.invariant.0 last w.if-n-gt0.true held w.if-entries-n.true in
+          let place : at.n - 1 < length at.entries = omega arith in (
+            rw (next here, w.n-is) joins.1,
             omega arith,
-            omega (arith, w.n-is),
-            c.loop-i.invariant.3 ∙ sym w.n-is,
-            w.entries-is ∙ c.loop-i.invariant.4,
-            rw (same, longer) at with-next,
-            omega (arith, w.last-is),
+            rw (next here) (w.entries-is ∙ ap₂ (λ (col : List ℕ) (v : ℕ). set col (at.n - 1) v) at.invariant.2 longer ∙ joins.0),
+            λ some. rw (w.entries-is, w.n-is, get_or-set_same at.entries (at.n - 1) (last + entry / 16 * 16) 0 place) (omega (arith, at.invariant.3 w.if-n-gt0.true)),
           ))
-      | else-last-entry w ↦ (
-          let differ = ne_eqb (op_code last) (op_code entry) w.if-last-entry.false in
-          let n = c.loop-i.invariant.3 in (
-            done ++ (last ∷ []),
+      | else-n-gt0 w ↦ (
+          let differ : (0 < at.n → op_code (get_or (written (joined (passed here)) old) (at.n - 1) 0) ≡ op_code entry → ⊥) =
+          elim w.else-n-gt0.branch [
+            | else-n-gt0-via-then-n-gt0+else-entries-n v ↦ λ some same. v.if-entries-n.false (ap op_code held ∙ same)
+            | else-n-gt0-via-else-n-gt0 v ↦ λ some. absurd (omega (arith, v.if-n-gt0.false))
+          ] in
+          let begins = begins_entry (passed here) old entry at.n at.invariant.0 (omega arith) differ in
+          let place : at.n < length at.entries = omega arith in (
+            rw (next here, w.n-is) begins.1,
             omega arith,
-            omega (arith, w.n-is),
-            length-append done (last ∷ []) ∙ omega (arith, w.n-is),
-            w.entries-is ∙ rw (c.loop-i.invariant.4, ← n) (written_more done args.entries.now last (omega (arith, c.requires))),
-            (rw differ at with-next) ∙ rw w.last-is (sym (append_assoc done (last ∷ []) (entry ∷ []))),
-            omega (arith, w.last-is),
+            rw (next here) (w.entries-is ∙ ap (λ (col : List ℕ). set col at.n entry) at.invariant.2 ∙ begins.0),
+            λ some.
+                let first : at.n + 1 - 1 ≡ at.n = omega arith in
+                rw (w.entries-is, w.n-is, first, get_or-set_same at.entries at.n entry 0 place) (omega arith),
           ))
     ]
 
-pub offset_bounds-entries-n-2 : goal.offset_bounds-entries-n-2
-offset_bounds-entries-n-2 c = omega (arith, c.requires)
+-- the operations passed are all
+whole : (c : After-loop-i) → joined (map simple_entry (take c.loop-i.i (in_order c.args.reverse c.args.ops.now))) ≡ simplified c.args.reverse c.args.ops.now
+whole c =
+    rw (take_all c.loop-i.i (in_order c.args.reverse c.args.ops.now) (omega (arith, length-in_order c.args.reverse c.args.ops.now)))
+    (sym (simplified-in_order c.args.reverse c.args.ops.now))
 
-pub bounds-entries-n-2 : goal.bounds-entries-n-2
-bounds-entries-n-2 c = omega (arith, kept (goal.at.bounds-entries-n-2 c).At-loop-i, c.requires)
+pub returns-clause-count : goal.returns-clause-count
+returns-clause-count c = c.loop-i.invariant.0 ∙ ap length (whole (goal.at.returns-clause-count c).After-loop-i)
 
-pub shape_of-entries : goal.shape_of-entries
-shape_of-entries c = simp length-set (kept (goal.at.shape_of-entries c).At-loop-i)
-
-pub returns : goal.returns
-returns c =
-    let args = c.args in
-    let done = c.loop-i.invariant.0 in
-    let xs = in_order args.reverse args.ops.now in
-    let all : take c.loop-i.i xs ≡ xs = take_all c.loop-i.i xs (omega (arith, length-in_order args.reverse args.ops.now)) in
-    let whole = simplified-in_order args.reverse args.ops.now ∙ rw all at c.loop-i.invariant.5 in (
-      rw whole (sym (length-append done (c.loop-i.last ∷ []) ∙ ap (λ (n : ℕ). n + 1) c.loop-i.invariant.3)),
-      rw (whole, c.loop-i.invariant.4, ← c.loop-i.invariant.3) (written_more done args.entries.now c.loop-i.last (omega (arith, c.requires))),
-    )
+pub returns-clause-stored : goal.returns-clause-stored
+returns-clause-stored c = c.loop-i.invariant.2 ∙ ap (λ (xs : List ℕ). written xs c.args.entries.now) (whole (goal.at.returns-clause-stored c).After-loop-i)

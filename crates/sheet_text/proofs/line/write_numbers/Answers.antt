@@ -1,42 +1,38 @@
--- Storing the numbers left from where the line ends gives what storing all of them gives.
-use mathlib.Core.Bool.{cond}
-use lib.Dec.{eqb}
-use Rattle.table_text.specs.Text.{space, line_feed}
-use mathlib.Core.List.{List, ◌++◌}
-use mathlib.Core.Path.{◌≡◌, sym, ◌∙◌, ap}
-use Prim.Native.Nat.{ℕ, ◌+◌, ◌<◌}
-use native.Mathlib.Numerals.{add-one}
-use native.Mathlib.Omega.{arith}
-use lib.ListN.{length, get_or, drop, length-append, drop_of_length-le}
-use lib.Seq.{sets}
+-- Writing the numbers left behind those that are written gives what writing all of them gives.
+use Rattle.std.proofs.Common.{◌+◌, [], ◌∷◌, ◌++◌, length, drop, slice_index_or, ap, arith}
+use Rattle.std.proofs.Math.ListN.{length-append}
 use Rattle.table_text.specs.OutputTable.{number_text}
-use Rattle.table_text.proofs.Stores.{stored_more}
+use Rattle.table_text.proofs.Pages.{appends_none, appends_then}
 use Rattle.sheet_text.specs.SheetText.{numbers_text}
-use Rattle.sheet_text.proofs.Lines.{number_first}
+use Rattle.sheet_text.proofs.Lines.{no_numbers, number_at, number_last}
 use Rattle.sheet_text.proofs.line.write_numbers.Goals as goal
 
--- the number that is read, the byte after it, and the numbers left
-next : (numbers : List ℕ) (i byte : ℕ) → i < length numbers → byte ≡ cond (eqb (i + 1) (length numbers)) line_feed space
-    → numbers_text (drop i numbers) ≡ number_text (get_or numbers i 0) byte ++ numbers_text (drop (i + 1) numbers)
-next numbers i byte inside e = rw (e, add-one) (number_first _ _ inside)
+pub returns-in_default : goal.returns-in_default
+returns-in_default c = rw (no_numbers c.args.numbers.now c.in_default.ensures.cases) (appends_none c.args.page.now)
 
-pub write_number-end-requires : goal.write_number-end-requires
-write_number-end-requires c = omega (arith, simp length-append at (ap length (next c.args.numbers.now c.loop-i.i _ c.loop-i-test.true c.byte_after-after.ensures)))
+pub loop-n-init : goal.loop-n-init
+loop-n-init c =
+    let whole = ap numbers_text c.in-Some.ensures.cases.0 in
+    record { room = omega (arith, c.requires, ap length whole); completes = λ page all. rw whole all }
 
-pub loop-i-preserved : goal.loop-i-preserved
-loop-i-preserved c =
-    let at = c.loop-i in
-    let numbers = c.args.numbers.now in
-    let more = stored_more (number_text (get_or numbers at.i 0) c.byte_after-after.result) (numbers_text (drop (at.i + 1) numbers)) at.output at.end c.write_number-end.ensures in (
-      omega arith,
-      c.write_number-end.auto.output ∙ at.invariant.1,
-      more.0 ∙ ap (λ (t : List ℕ). at.end + length t) (sym (next c.args.numbers.now c.loop-i.i _ c.loop-i-test.true c.byte_after-after.ensures)) ∙ at.invariant.2,
-      more.1 ∙ ap (λ (t : List ℕ). sets at.output at.end t) (sym (next c.args.numbers.now c.loop-i.i _ c.loop-i-test.true c.byte_after-after.ensures)) ∙ at.invariant.3,
-    )
+pub write_number-requires : goal.write_number-requires
+write_number-requires c =
+    omega (arith, c.loop-n.invariant.room, simp length-append at (ap length (number_at c.in-Some.others.now c.in-Some.field-0-0.now c.loop-n.n-index c.loop-n-test.true)))
+
+pub loop-n-preserved : goal.loop-n-preserved
+loop-n-preserved c =
+    let others = c.in-Some.others.now in
+    let last = c.in-Some.field-0-0.now in
+    let i = c.loop-n.n-index in
+    let next = number_at others last i c.loop-n-test.true in
+    record {
+      room = omega (arith, c.loop-n.invariant.room, simp length-append at (ap length next));
+      completes = λ page more. c.loop-n.invariant.completes page (rw next (appends_then (number_text (slice_index_or others i 0) 32) (numbers_text (drop (i + 1) others ++ (last ∷ []))) c.write_number.ensures more));
+    }
+
+pub write_number-requires-2 : goal.write_number-requires-2
+write_number-requires-2 c =
+    omega (arith, c.loop-n.invariant.room, ap length (number_last c.in-Some.others.now c.in-Some.field-0-0.now c.loop-n.n-index c.loop-n-test.false))
 
 pub returns : goal.returns
-unfolding numbers_text
-returns c =
-    let at = c.loop-i in
-    let none = ap numbers_text (drop_of_length-le c.args.numbers.now {i = at.i} c.loop-i-test.false) in
-    (omega (arith, at.invariant.2, ap length none), rw none at at.invariant.3)
+returns c = c.loop-n.invariant.completes _ (rw (number_last c.in-Some.others.now c.in-Some.field-0-0.now c.loop-n.n-index c.loop-n-test.false) c.write_number-2.ensures)

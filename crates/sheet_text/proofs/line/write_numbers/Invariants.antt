@@ -1,14 +1,13 @@
-use mathlib.Core.Path.{◌≡◌}
-use Prim.Native.Nat.{◌+◌, ◌-◌, ◌≤◌}
-use lib.ListN.{length, drop}
-use lib.Seq.{sets}
+use Rattle.std.proofs.Common.{[], ◌∷◌, ◌++◌, length, drop}
+use Rattle.table_text.specs.Page.{HasRoom, Appends}
+use Rattle.table_text.specs.declared.page.Page.{Page}
 use Rattle.sheet_text.specs.SheetText.{numbers_text}
 use Rattle.sheet_text.proofs.line.write_numbers.Given as goal
 
-abbrev pub invariant-loop-i : goal.invariant-loop-i
-invariant-loop-i l =
-    let left = numbers_text (drop l.i l.numbers) in
-    (l.i ≤ length l.numbers) × (length l.output ≡ length l.initial.output) × (l.end + length left ≡ l.to + length (numbers_text l.numbers)) × (sets l.output l.end left ≡ sets l.initial.output l.to (numbers_text l.numbers))
-
-abbrev pub decreases-loop-i : goal.decreases-loop-i
-decreases-loop-i l = length l.numbers - l.i
+abbrev pub invariant-loop-n : goal.invariant-loop-n
+invariant-loop-n l =
+    let left = numbers_text (drop l.n-index l.others ++ (l.last ∷ [])) in
+    record {
+      room : HasRoom (length left) l.page;
+      completes : (page : Page) → Appends left l.page page → Appends (numbers_text l.numbers) l.fn.page page;
+    }

@@ -1,29 +1,28 @@
 -- By the refusal.
-use mathlib.Core.Path.{sym, ◌∙◌, ap}
-use native.Mathlib.Omega.{arith}
-use lib.ListN.{length}
+use Rattle.std.proofs.Common.{◌≡◌, rules, Ok, Err, length, sym, ap, arith}
 use Rattle.sheet_text.specs.Sheet.{sheet_answer, sheet_buffer}
-use Rattle.sheet_text.specs.declared.sheet.Sheet.TheVariants.{Written}
 use Rattle.sheet_text.proofs.Accepted.{accepted}
 use Rattle.sheet_text.proofs.sheet.write_sheet.Goals as goal
 
+pub returns-in_err-refuse_sheet-clause-value : goal.returns-in_err-refuse_sheet-clause-value
+unfolding sheet_answer
+returns-in_err-refuse_sheet-clause-value c =
+    let is : c.from_residual.result ≡ Err c.in_err-refuse_sheet.field-0.0 = search rules in
+    rw (is, ← c.in_err-refuse_sheet.ensures)
+
+pub returns-in_err-refuse_sheet-clause-output_after : goal.returns-in_err-refuse_sheet-clause-output_after
+unfolding sheet_buffer
+returns-in_err-refuse_sheet-clause-output_after c = rw (← c.in_err-refuse_sheet.ensures)
+
 pub write_text-requires : goal.write_text-requires
 write_text-requires c =
-    let room = accepted c.args.samples.now (length c.args.output.now) (sym c.refuse_sheet.ensures ∙ c.in-NoRefusal.is) in
-    (room.0, omega arith)
+    let met = accepted c.args.samples.now (length c.args.output.now) (sym c.in_ok-refuse_sheet.ensures) in
+    record { within_limits = met.0; room = omega (arith, met.1) }
 
-pub returns-in-NoRefusal-clause-value : goal.returns-in-NoRefusal-clause-value
+pub returns-clause-value : goal.returns-clause-value
 unfolding sheet_answer
-returns-in-NoRefusal-clause-value c = rw (sym c.refuse_sheet.ensures ∙ c.in-NoRefusal.is) (ap Written c.write_text.ensures.value)
+returns-clause-value c = rw (← c.in_ok-refuse_sheet.ensures) (ap Ok c.write_text.ensures.value)
 
-pub returns-in-NoRefusal-clause-output_after : goal.returns-in-NoRefusal-clause-output_after
+pub returns-clause-output_after : goal.returns-clause-output_after
 unfolding sheet_buffer
-returns-in-NoRefusal-clause-output_after c = rw (sym c.refuse_sheet.ensures ∙ c.in-NoRefusal.is) c.write_text.ensures.output_after
-
-pub returns-in-Refused-clause-value : goal.returns-in-Refused-clause-value
-unfolding sheet_answer
-returns-in-Refused-clause-value c = rw (sym c.refuse_sheet.ensures ∙ c.in-Refused.is)
-
-pub returns-in-Refused-clause-output_after : goal.returns-in-Refused-clause-output_after
-unfolding sheet_buffer
-returns-in-Refused-clause-output_after c = rw (sym c.refuse_sheet.ensures ∙ c.in-Refused.is)
+returns-clause-output_after c = rw (← c.in_ok-refuse_sheet.ensures) c.write_text.ensures.output_after

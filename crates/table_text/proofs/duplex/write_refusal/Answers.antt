@@ -1,14 +1,10 @@
--- The words, and then the line's number where they end.
-use mathlib.Core.List.{List, [], ◌∷◌, ◌++◌}
-use mathlib.Core.Path.{◌≡◌, refl}
-use Prim.Native.Nat.{ℕ, ◌^◌, ◌≤◌, ◌<◌}
-use native.Mathlib.Omega.{arith}
-use lib.ListN.{length}
+-- The words, and then the line's number behind them.
+use Rattle.std.proofs.Common.{◌≡◌, ◌^◌, ◌≤◌, ◌<◌, ℕ, List, [], ◌∷◌, ◌++◌, length, refl, rules, ◌∙◌, arith}
 use Rattle.table_text.specs.Decimal.{last_digits, decimal}
 use Rattle.table_text.specs.Duplex.{refusal_text}
-use Rattle.table_text.specs.OutputTable.{number_text, Stored}
-use Rattle.lists.specs.Written.{written}
-use Rattle.table_text.proofs.Stores.{written_then, length-number_text}
+use Rattle.table_text.specs.OutputTable.{number_text}
+use Rattle.table_text.proofs.Pages.{appends_then, page_written}
+use Rattle.table_text.proofs.Stores.{length-number_text}
 use Rattle.table_text.proofs.duplex.write_refusal.Goals as goal
 
 -- `refused 13 `
@@ -27,24 +23,15 @@ short : (n : ℕ) → n < 2 ^ 64 → length (number_text n 10) ≤ 21
 short n h = length-number_text 19 n 10 (omega arith)
 
 pub write_number-requires : goal.write_number-requires
-write_number-requires c =
-    let copied = c.copy_bytes-to in
-    omega (arith, c.requires, copied.ensures.value, copied.auto.output, short c.args.line c.ranges.line.fits)
-
-refused : (line : ℕ) (old : List ℕ) {mid new : List ℕ} {to after : ℕ} → 32 ≤ length old → line < 2 ^ 64 → to ≡ 11 → mid ≡ written words old → Stored (number_text line 10) mid to new after
-    → (after ≡ length (refusal_text 13 line)) × (new ≡ written (refusal_text 13 line) old)
-unfolding words
-refused line old room fits place copied stored =
-    rw (refusal-text line) (written_then words (number_text line 10) old place copied stored (omega (arith, stored.0, short line fits)))
+write_number-requires c = omega (arith, short c.args.line c.ranges.line.fits)
 
 pub returns-clause-value : goal.returns-clause-value
 unfolding words
 returns-clause-value c =
-    let copied = c.copy_bytes-to.ensures in
-    (refused c.args.line c.args.output.now c.requires c.ranges.line.fits copied.value copied.output_after c.write_number.ensures).0
+    (page_written (words ++ number_text c.args.line 10) c.new-page.ensures (appends_then words (number_text c.args.line 10) c.write.ensures c.write_number.ensures)).0 ∙ rw (refusal-text c.args.line)
 
 pub returns-clause-output_after : goal.returns-clause-output_after
 unfolding words
 returns-clause-output_after c =
-    let copied = c.copy_bytes-to.ensures in
-    (refused c.args.line c.args.output.now c.requires c.ranges.line.fits copied.value copied.output_after c.write_number.ensures).1
+    let whole = page_written (words ++ number_text c.args.line 10) c.new-page.ensures (appends_then words (number_text c.args.line 10) c.write.ensures c.write_number.ensures) in
+    rw (refusal-text c.args.line) (search rules)

@@ -1,45 +1,41 @@
--- The field goes up to the next space or the end; one byte of it is read where it is one byte long.
-use mathlib.Core.Bool.{cond}
-use mathlib.Core.List.{List, [], ◌∷◌}
-use mathlib.Core.Path.{◌≡◌, refl, sym, ◌∙◌}
-use Prim.Native.Nat.{ℕ, ◌+◌, ◌-◌, ◌≤◌}
-use native.Mathlib.Omega.{arith}
-use lib.ListN.{length, get_or, drop, length-drop}
-use lib.Seq.{length-take-le, drop-cons}
-use Rattle.table_text.specs.Bytes.{index_of}
-use Rattle.table_text.specs.Fields.{read, malformed, is_base, base_field, fields_from}
+-- The field goes up to the next space or the end, and is a base where it is one byte long.
+use Rattle.std.proofs.Common.{◌≡◌, ◌≢◌, ℕ, List, [], ◌∷◌, cond, length, slice_index_or, Some, None, refl, sym, ◌∙◌, arith}
+use Rattle.table_text.specs.Fields.{is_base, base_field}
 use Rattle.table_text.proofs.FieldLists.{fields_none, fields_next}
 use Rattle.table_text.proofs.fields.read_base.Goals as goal
 
-not-one : (field : List ℕ) (rest : List (List ℕ)) → (length field ≡ 1 → ⊥) → malformed ≡ base_field (field ∷ rest)
+other : (field : List ℕ) (rest : List (List ℕ)) → length field ≢ 1 → None ≡ base_field (field ∷ rest)
 unfolding base_field
-not-one [] rest h = refl
-not-one (b ∷ []) rest h = absurd (h refl)
-not-one (b ∷ c ∷ bs) rest h = refl
+other [] rest h = refl
+other (b ∷ []) rest h = absurd (h refl)
+other (b ∷ c ∷ bs) rest h = refl
 
-module _ (line : List ℕ) (at end : ℕ) (inside : at ≤ length line) (is : end ≡ at + index_of 32 (drop at line)) (h : end ≤ length line) where
-  other : (end - at ≡ 1 → ⊥) → malformed ≡ base_field (fields_from line at)
-  other n = rw (fields_next line at end inside is h) (not-one _ _ (λ e. n (sym (length-take-le (end - at) (drop at line) (omega (arith, length-drop at line))) ∙ e)))
-
-  one : end - at ≡ 1 → base_field (fields_from line at) ≡ cond (is_base (get_or line at 0)) (read (get_or line at 0) (fields_from line (end + 1))) malformed
-  unfolding base_field
-  one e = rw (fields_next line at end inside is h, e, drop-cons line at 0 (omega arith))
+one : (field : List ℕ) (rest : List (List ℕ)) → length field ≡ 1 → base_field (field ∷ rest) ≡ cond (is_base (slice_index_or field 0 0)) (Some (slice_index_or field 0 0, rest)) None
+unfolding base_field
+one [] rest h = absurd (omega arith)
+one (b ∷ []) rest h = refl
+one (b ∷ c ∷ bs) rest h = absurd (omega arith)
 
 pub returns-then-line-at : goal.returns-then-line-at
 unfolding base_field
 returns-then-line-at c = rw (fields_none _ _ c.if-line-at.true)
 
-pub returns-then-end-at-ne1 : goal.returns-then-end-at-ne1
-returns-then-end-at-ne1 c =
+pub returns-in-len1 : goal.returns-in-len1
+returns-in-len1 c =
     let found = c.part_end-end.ensures in
-    other _ _ _ c.if-line-at.false found.0 found.1 c.if-end-at-ne1.true
+    rw (fields_next _ _ _ c.if-line-at.false found.0 found.1) (sym (one _ _ (omega arith) ∙ rw (sym c.if-is_base.ensures)))
 
-pub returns-then-is_base : goal.returns-then-is_base
-returns-then-is_base c =
+pub returns-in_default : goal.returns-in_default
+returns-in_default c =
     let found = c.part_end-end.ensures in
-    sym (one _ _ _ c.if-line-at.false found.0 found.1 c.if-end-at-ne1.false ∙ rw (sym c.is_base.ensures ∙ c.if-is_base.true))
+    rw (fields_next _ _ _ c.if-line-at.false found.0 found.1) (other _ _ (λ e. omega arith))
 
-pub returns-else-is_base : goal.returns-else-is_base
-returns-else-is_base c =
+pub returns-in_default-2 : goal.returns-in_default-2
+returns-in_default-2 c =
     let found = c.part_end-end.ensures in
-    sym (one _ _ _ c.if-line-at.false found.0 found.1 c.if-end-at-ne1.false ∙ rw (sym c.is_base.ensures ∙ c.if-is_base.false))
+    rw (fields_next _ _ _ c.if-line-at.false found.0 found.1) (sym (one _ _ (omega arith) ∙ rw (sym c.if-is_base.ensures)))
+
+pub returns-in_default-3 : goal.returns-in_default-3
+returns-in_default-3 c =
+    let found = c.part_end-end.ensures in
+    rw (fields_next _ _ _ c.if-line-at.false found.0 found.1) (other _ _ (λ e. omega arith))

@@ -7,14 +7,14 @@ pub returns-then-line-at : goal.returns-then-line-at
 unfolding number_field
 returns-then-line-at c = rw (fields_none _ _ c.if-line-at.true)
 
-pub returns-in_default : goal.returns-in_default
+pub returns-in_err-value : goal.returns-in_err-value
 unfolding number_field
-returns-in_default c =
+returns-in_err-value c =
     let found = c.part_end-end.ensures in
-    rw (fields_next _ _ _ c.if-line-at.false found.0 found.1, ← c.read_decimal.ensures, c.in_default.is)
+    rw (fields_next _ _ _ c.if-line-at.false found.0 found.1, ← c.in_err-value.ensures, c.from_residual.ensures)
 
 pub returns : goal.returns
 unfolding number_field
 returns c =
     let found = c.part_end-end.ensures in
-    rw (fields_next _ _ _ c.if-line-at.false found.0 found.1, ← c.read_decimal.ensures, c.in-Value.is)
+    rw (fields_next _ _ _ c.if-line-at.false found.0 found.1, ← c.in_ok-value.ensures)

@@ -1,57 +1,49 @@
--- Storing the rows left from where the output ends gives what storing all of them gives.
-use mathlib.Core.List.{List, []}
-use mathlib.Core.Path.{◌≡◌, sym, ◌∙◌, ap}
-use Prim.Native.Nat.{ℕ, ◌+◌}
-use native.Mathlib.Omega.{arith}
-use lib.ListN.{length}
-use lib.Seq.{sets}
+-- Writing the rows left behind those that are written gives what writing all of them gives.
+use Rattle.std.proofs.Common.{◌≡◌, ◌+◌, ℕ, List, [], ◌∷◌, ◌∙◌, ap, arith}
 use Rattle.codec_duplex.specs.Position.{combined}
-use Rattle.table_text.specs.InputTable.{Reading, input_line, table_from}
-use Rattle.table_text.specs.OutputTable.{position_text, rows_text, Stored}
 use Rattle.codec_duplex.specs.declared.position.Position.{Position}
-use Rattle.table_text.specs.Reading.{row, line_then}
-use Rattle.table_text.proofs.Stores.{stored_more}
+use Rattle.table_text.specs.InputTable.{Reading, table_from}
+use Rattle.table_text.specs.OutputTable.{position_text, rows_text}
+use Rattle.table_text.specs.Page.{Appends}
+use Rattle.table_text.specs.Rows.{row_of}
+use Rattle.table_text.specs.declared.page.Page.{Page}
+use Rattle.table_text.proofs.Pages.{appends_none, appends_then}
 use Rattle.table_text.proofs.Tables.{table_end}
 use Rattle.table_text.proofs.output_table.write_rows.Goals as goal
 
-module _ (input old : List ℕ) (start to : ℕ) where
-  -- where no row is left, all are stored
-  all_stored : (line at : ℕ) (output : List ℕ) (end : ℕ) → rows_text (table_from input line at).rows ≡ []
-      → end + length (rows_text (table_from input line at).rows) ≡ to + length (rows_text (table_from input 2 start).rows)
-      → sets output end (rows_text (table_from input line at).rows) ≡ sets old to (rows_text (table_from input 2 start).rows)
-      → Stored (rows_text (table_from input 2 start).rows) old to output end
-  all_stored line at output end none size same = (omega (arith, size, ap length none), rw none at same)
+module _ (input : List ℕ) (start : ℕ) (blank : Page) where
+  -- what completes the rows left completes them all
+  abbrev Completes : ℕ → ℕ → Page → Type 0
+  Completes line at written = (page : Page) → Appends (rows_text (table_from input line at).rows) written page → Appends (rows_text (table_from input 2 start).rows) blank page
 
-  -- one more row is stored
-  row_stored : (line at : ℕ) (output : List ℕ) (end : ℕ) (first second : Position) (after : ℕ) (p : Position) {new : List ℕ} {next : ℕ}
-      → table_from input line at ≡ line_then line (row (first, second)) (table_from input (line + 1) after)
-      → p ≡ combined first second → Stored (position_text p) output end new next
-      → end + length (rows_text (table_from input line at).rows) ≡ to + length (rows_text (table_from input 2 start).rows)
-      → sets output end (rows_text (table_from input line at).rows) ≡ sets old to (rows_text (table_from input 2 start).rows)
-      → (next + length (rows_text (table_from input (line + 1) after).rows) ≡ to + length (rows_text (table_from input 2 start).rows))
-      × (sets new next (rows_text (table_from input (line + 1) after).rows) ≡ sets old to (rows_text (table_from input 2 start).rows))
+  -- where no row is left, all are written
+  all_written : (line at : ℕ) (written : Page) → Completes line at written → (table_from input line at).rows ≡ [] → Appends (rows_text (table_from input 2 start).rows) blank written
   unfolding rows_text
-  row_stored line at output end first second after p whole is stored size same =
-      let rows = ap (λ (r : Reading). rows_text r.rows) whole in
-      let left = rows_text (table_from input (line + 1) after).rows in
-      let more = stored_more (position_text (combined first second)) left output end (rw is at stored) in
-      (more.0 ∙ ap (λ (t : List ℕ). end + length t) (sym rows) ∙ size, more.1 ∙ ap (λ (t : List ℕ). sets output end t) (sym rows) ∙ same)
+  all_written line at written completes none = completes written (rw none (appends_none written))
 
-pub returns-in_default-clause-stored : goal.returns-in_default-clause-stored
-unfolding rows_text
-returns-in_default-clause-stored c =
-    let at = c.loop-at in
-    all_stored _ _ _ _ at.line at.at at.output at.end (ap (λ (r : Reading). rows_text r.rows) (rw c.in_default.is at c.next_row.ensures)) at.invariant.5 at.invariant.6
+  -- one more row is written
+  row_written : (line at after : ℕ) (row : Position × Position) (p : Position) {written new : Page} → Completes line at written
+      → (table_from input line at).rows ≡ row ∷ (table_from input (line + 1) after).rows → p ≡ combined row.0 row.1 → Appends (position_text p) written new → Completes (line + 1) after new
+  unfolding rows_text
+  row_written line at after row p completes whole is appended page more =
+      completes page (rw whole (appends_then (position_text (combined row.0 row.1)) (rows_text (table_from input (line + 1) after).rows) (rw is at appended) more))
+
+pub returns-in_default : goal.returns-in_default
+returns-in_default c =
+    all_written c.args.input.now c.args.start c.args.page.now c.loop-at.line c.loop-at.at c.loop-at.page c.loop-at.invariant.completes (ap (λ (r : Reading). r.rows) c.in_default.ensures)
 
 pub loop-at-preserved : goal.loop-at-preserved
 loop-at-preserved c =
     let at = c.loop-at in
-    let row = rw c.in-Row.is at c.next_row.ensures in
-    let more = row_stored _ _ _ _ at.line at.at at.output at.end c.in-Row.first c.in-Row.second c.in-Row.after _ row.3 c.combine.ensures c.write_position-end.ensures.stored at.invariant.5 at.invariant.6 in
-    (row.2, omega arith, omega (arith, row.0), omega (arith, c.write_position-end.ensures.upper_bound), c.write_position-end.auto.output ∙ at.invariant.4, more.0, more.1)
+    let row = c.in-Some.ensures in
+    record {
+      within = row.2;
+      first = omega arith;
+      last = omega (arith, row.0);
+      short = omega (arith, c.write_position.ensures.upper_bound);
+      size = c.write_position.ensures.appended.size ∙ at.invariant.size;
+      completes = row_written c.args.input.now c.args.start c.args.page.now at.line at.at c.in-Some.after (c.in-Some.first, c.in-Some.second) c.combine.result at.invariant.completes (ap (λ (r : Reading). r.rows) row.3) c.combine.ensures c.write_position.ensures.appended;
+    }
 
-pub returns-clause-stored : goal.returns-clause-stored
-unfolding rows_text
-returns-clause-stored c =
-    let at = c.loop-at in
-    all_stored _ _ _ _ at.line at.at at.output at.end (ap (λ (r : Reading). rows_text r.rows) (table_end input_line _ _ _ c.loop-at-test.false)) at.invariant.5 at.invariant.6
+pub returns : goal.returns
+returns c = all_written c.args.input.now c.args.start c.args.page.now c.loop-at.line c.loop-at.at c.loop-at.page c.loop-at.invariant.completes (ap (λ (r : Reading). r.rows) (table_end row_of _ _ _ c.loop-at-test.false))

@@ -1,84 +1,41 @@
 -- Each field that is read leaves the fields after it; the first that is malformed makes the position so.
-use mathlib.Core.List.{List}
-use mathlib.Core.Path.{◌≡◌, sym, ◌∙◌, ap}
-use Prim.Native.Nat.{ℕ, ◌≤◌}
-use native.Mathlib.Omega.{arith}
-use Rattle.table_text.specs.Fields.{fields_from, number_field, number_in}
+use Rattle.std.proofs.Common.{◌≤◌, sym, arith}
 use Rattle.table_text.specs.Rows.{position_fields}
-use Rattle.table_text.specs.declared.fields.NumberField.{NumberField}
-use Rattle.table_text.specs.declared.fields.NumberField.TheVariants.{Value}
 use Rattle.table_text.proofs.FieldLists.{number_field_le}
 use Rattle.table_text.proofs.position.read_position.Goals as goal
 
--- a number that a field gave is within its limit
-within : (line : List ℕ) (limit : ℕ) (fields : List (List ℕ)) (r : NumberField) (v next : ℕ) → number_in line r ≡ number_field limit fields → r ≡ Value v next → v ≤ limit
-within line limit fields r v next e is = number_field_le limit fields v (fields_from line next) (sym e ∙ ap (number_in line) is)
-
-pub returns-in_default : goal.returns-in_default
+pub returns-in_err-base : goal.returns-in_err-base
 unfolding position_fields
-returns-in_default c = rw (← c.read_base.ensures, c.in_default.is)
+returns-in_err-base c = rw (← c.in_err-base.ensures, c.from_residual.ensures)
 
-pub returns-in_default-read_number : goal.returns-in_default-read_number
+pub returns-in_err-quality : goal.returns-in_err-quality
 unfolding position_fields
-returns-in_default-read_number c =
-    rw (
-      ← c.read_base.ensures,
-      c.in-Base.is,
-      ← c.read_number.ensures,
-      c.in_default-read_number.is,
-    )
+returns-in_err-quality c = rw (← c.in_ok-base.ensures, ← c.in_err-quality.ensures, c.from_residual-in_err-quality.ensures)
 
-pub returns-in_default-read_number-2 : goal.returns-in_default-read_number-2
+pub returns-in_err-depth : goal.returns-in_err-depth
 unfolding position_fields
-returns-in_default-read_number-2 c =
-    rw (
-      ← c.read_base.ensures,
-      c.in-Base.is,
-      ← c.read_number.ensures,
-      c.in-Value.is,
-      ← c.read_number-2.ensures,
-      c.in_default-read_number-2.is,
-    )
+returns-in_err-depth c = rw (← c.in_ok-base.ensures, ← c.in_ok-quality.ensures, ← c.in_err-depth.ensures, c.from_residual-in_err-depth.ensures)
 
-pub returns-in_default-read_number-3 : goal.returns-in_default-read_number-3
+pub returns-in_err-error : goal.returns-in_err-error
 unfolding position_fields
-returns-in_default-read_number-3 c =
-    rw (
-      ← c.read_base.ensures,
-      c.in-Base.is,
-      ← c.read_number.ensures,
-      c.in-Value.is,
-      ← c.read_number-2.ensures,
-      c.in-Value-read_number.is,
-      ← c.read_number-3.ensures,
-      c.in_default-read_number-3.is,
-    )
+returns-in_err-error c =
+    rw (← c.in_ok-base.ensures, ← c.in_ok-quality.ensures, ← c.in_ok-depth.ensures, ← c.in_err-error.ensures, c.from_residual-in_err-error.ensures)
 
 pub overflow_cast-position : goal.overflow_cast-position
 overflow_cast-position c =
-    let h : c.in-Value.quality ≤ 255 = within _ _ _ _ _ _ c.read_number.ensures c.in-Value.is in
+    let h : c.in_ok-quality.quality ≤ 255 = number_field_le _ _ _ _ (sym c.in_ok-quality.ensures) in
     omega arith
 
 pub overflow_cast-position-2 : goal.overflow_cast-position-2
 overflow_cast-position-2 c =
-    let h : c.in-Value-read_number.depth ≤ 65535 = within _ _ _ _ _ _ c.read_number-2.ensures c.in-Value-read_number.is in
+    let h : c.in_ok-depth.depth ≤ 65535 = number_field_le _ _ _ _ (sym c.in_ok-depth.ensures) in
     omega arith
 
 pub overflow_cast-position-3 : goal.overflow_cast-position-3
 overflow_cast-position-3 c =
-    let h : c.in-Value-read_number-2.error ≤ 65535 = within _ _ _ _ _ _ c.read_number-3.ensures c.in-Value-read_number-2.is in
+    let h : c.in_ok-error.error ≤ 65535 = number_field_le _ _ _ _ (sym c.in_ok-error.ensures) in
     omega arith
 
 pub returns : goal.returns
 unfolding position_fields
-returns c =
-    rw (
-      ← c.read_base.ensures,
-      c.in-Base.is,
-      ← c.read_number.ensures,
-      c.in-Value.is,
-      ← c.read_number-2.ensures,
-      c.in-Value-read_number.is,
-      ← c.read_number-3.ensures,
-      c.in-Value-read_number-2.is,
-    )
+returns c = rw (← c.in_ok-base.ensures, ← c.in_ok-quality.ensures, ← c.in_ok-depth.ensures, ← c.in_ok-error.ensures)
