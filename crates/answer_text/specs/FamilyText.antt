@@ -2,6 +2,7 @@
 use Rattle.std.specs.Prelude.{false, List, [], ◌∷◌, ◌++◌, ◌≡◌, ℕ, ◌≤◌, length, get_or, take}
 use Prim.Native.Char.{code}
 use Rattle.caller.specs.Reasons.{number_of}
+use Rattle.caller.specs.Refusals as refusals
 use Rattle.caller.specs.declared.reason.RejectionReason.TheVariants.{HighDuplexDisagreement}
 use Rattle.codec_duplex.specs.Columns.{Strand, strand}
 use Rattle.codec_duplex.specs.Duplex.{Duplex}
@@ -24,7 +25,7 @@ ending_text Empty = line_text (bytes_of "A empty") []
 ending_text NoStrand = line_text (bytes_of "A nostrand") []
 ending_text (Rejected reason) = line_text (bytes_of "A rejected") (number_of reason ∷ [])
 ending_text (Disagreeing limit) = line_text (bytes_of "A rejected") (number_of HighDuplexDisagreement ∷ [])
-ending_text (Refused number given) = line_text (bytes_of "A refused") (number ∷ given ∷ [])
+ending_text (Refused refusal) = line_text (bytes_of "A refused") (refusals.number_of refusal ∷ refusals.given_of refusal ∷ [])
 
 -- `RECORD:REASON` after a space
 abbrev pub listed_text : (record' reason : ℕ) → List ℕ
@@ -60,10 +61,14 @@ abbrev pub called_text : Ending → Lent → List ℕ
 called_text (Called length) lent = columns_text length lent.duplex lent.r1 lent.r2
 called_text _ lent = []
 
--- the list and `M w0 .. w7`; 'After a refusal the lines `L` and `M` are left out'
+-- the list and `M w0 .. w7`
+abbrev pub lists_text : (listed : ℕ) → Lent → List ℕ
+lists_text listed lent = list_text listed lent.listed_records lent.listed_reasons ++ line_text (bytes_of "M") (take 8 lent.marks)
+
+-- 'After a refusal the lines `L` and `M` are left out'
 abbrev pub listed_unless_refused : Ending → (listed : ℕ) → Lent → List ℕ
-listed_unless_refused (Refused number given) listed lent = []
-listed_unless_refused ending listed lent = list_text listed lent.listed_records lent.listed_reasons ++ line_text (bytes_of "M") (take 8 lent.marks)
+listed_unless_refused (Refused refusal) listed lent = []
+listed_unless_refused ending listed lent = lists_text listed lent
 
 -- the answer of a family call, and what it left in the lent columns
 unfoldable pub family_text : Answer → Lent → List ℕ

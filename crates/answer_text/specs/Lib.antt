@@ -1,4 +1,5 @@
 pub mod FamilyText
+pub mod Left
 pub mod Line
 pub mod SampleText
 pub mod SelectionText

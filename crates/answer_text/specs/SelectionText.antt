@@ -1,6 +1,7 @@
 -- The text form, 'Output of selection alone': a line for how it ends, and the records that stay as mark words.
 use Rattle.std.specs.Prelude.{Bool, cond, List, [], ◌∷◌, ◌++◌, ℕ}
 use Rattle.caller.specs.Reasons.{number_of}
+use Rattle.caller.specs.Refusals as refusals
 use Rattle.codec_select.specs.declared.selection.Decision.{Decision}
 use Rattle.codec_select.specs.declared.selection.Decision.TheVariants.{Kept, Empty, Rejected, Refused}
 use Rattle.codec_select.specs.declared.selection.Selection.{Selection}
@@ -17,7 +18,7 @@ decision_text (Kept start end length r1_negative r2_negative) r1 r2 =
     line_text (bytes_of "S kept") (start ∷ end ∷ length ∷ flag_number r1_negative ∷ []) ++ (line_text (bytes_of "K1") r1 ++ line_text (bytes_of "K2") r2)
 decision_text Empty r1 r2 = line_text (bytes_of "S empty") []
 decision_text (Rejected reason) r1 r2 = line_text (bytes_of "S rejected") (number_of reason ∷ [])
-decision_text (Refused number given) r1 r2 = line_text (bytes_of "S refused") (number ∷ given ∷ [])
+decision_text (Refused refusal) r1 r2 = line_text (bytes_of "S refused") (refusals.number_of refusal ∷ refusals.given_of refusal ∷ [])
 
 -- the answer of selection alone
 abbrev pub selection_text : Selection → List ℕ

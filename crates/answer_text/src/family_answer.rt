@@ -1,204 +1,124 @@
 // The family call's answer as text.
-ghost use Rattle.std.specs.Prelude.{◌+◌, ◌*◌, ◌≤◌, length};
-ghost use Rattle.codec_duplex.specs.Columns.{strand};
-ghost use Rattle.codec_duplex.specs.Duplex.{duplex};
-ghost use Rattle.codec_family.specs.Call.{lent_of};
-ghost use Rattle.table_text.specs.OutputTable.{Stored};
-ghost use Rattle.answer_text.specs.FamilyText.{ending_text, listed_text, listings_text, list_text, ledger_text, columns_text, family_text, Holding, Answered};
+ghost use Rattle.std.specs.Prelude.{◌≡◌, ◌+◌, ◌*◌, ◌≤◌, length};
+ghost use Rattle.table_text.specs.Page.{HasRoom, Appends};
+ghost use Rattle.answer_text.specs.FamilyText.{ending_text, listed_text, list_text, ledger_text, lists_text, columns_text, family_text, Holding, Answered};
+ghost use Rattle.answer_text.specs.Left.{left_shown};
+ghost use Rattle.codec_duplex.specs.Lent.{strand_of};
 
 use crate::columns::write_strand;
-use crate::line::{end_line, write_field, write_line, write_words};
+use crate::left::Left;
+use crate::line::{write_field, write_line};
 use caller::reason::RejectionReason;
 use codec_family::answer::Answer;
 use codec_family::ending::Ending;
-use codec_stats::ledger::Ledger;
-use table_text::decimal;
+use codec_stats::ledger::{COUNTS, Ledger};
+use table_text::page::Page;
 
 // Room for the longest answer: 52 bytes for how it ends, 7,682 for a list of 512, 170 for the marks, 104,487 for twelve columns of 2,048
 // places, and 422 for the ledger.
 pub const ANSWER_BYTES: usize = 112813;
 
-fn write_ending(ending: Ending, output: &mut [u8], to: usize) -> usize
-    requires { to + 52 ≤ length output.old }
-    ensures stored { Stored (ending_text ending) output.old to output.new result }
-    ensures upper_bound { result ≤ to + 52 }
+#[tactic(auto, unfolding(crate::specs::FamilyText::ending_text))]
+fn write_ending(page: &mut Page, ending: Ending)
+    requires { HasRoom 52 page.old }
+    ensures appended { Appends (ending_text ending) page.old page.new }
+    ensures upper_bound { page.new.end ≤ page.old.end + 52 }
 {
     match ending {
-        Ending::Called(length) => write_line(b"A called", &[length], output, to),
-        Ending::Empty => write_line::<u64>(b"A empty", &[], output, to),
-        Ending::NoStrand => write_line::<u64>(b"A nostrand", &[], output, to),
-        Ending::Rejected(reason) => write_line(b"A rejected", &[u8::from(reason)], output, to),
+        Ending::Called(length) => write_line(page, b"A called", &[length]),
+        Ending::Empty => write_line::<u64>(page, b"A empty", &[]),
+        Ending::NoStrand => write_line::<u64>(page, b"A nostrand", &[]),
+        Ending::Rejected(reason) => write_line(page, b"A rejected", &[u8::from(reason)]),
         Ending::Disagreeing(_) => {
             let reason = RejectionReason::HighDuplexDisagreement;
-            write_line(b"A rejected", &[u8::from(reason)], output, to)
+            write_line(page, b"A rejected", &[u8::from(reason)])
         }
-        Ending::Refused(number, given) => {
-            write_line(b"A refused", &[u64::from(number), given as u64], output, to)
+        Ending::Refused(refusal) => {
+            write_line(
+                page,
+                b"A refused",
+                &[u64::from(refusal.number()), refusal.given() as u64],
+            )
         }
     }
 }
 
 // 32 bits are at most ten digits, and 8 bits three.
-fn write_listed(listed: u32, reason: u8, output: &mut [u8], to: usize) -> usize
-    requires { to + 15 ≤ length output.old }
-    ensures stored { Stored (listed_text listed reason) output.old to output.new result }
-    ensures upper_bound { result ≤ to + 15 }
+#[tactic(auto, using(crate::proofs::Lines::byte_digits, crate::proofs::Lines::word_digits))]
+fn write_listed(page: &mut Page, record: u32, reason: u8)
+    requires { HasRoom 15 page.old }
+    ensures appended { Appends (listed_text «record» reason) page.old page.new }
+    ensures upper_bound { page.new.end ≤ page.old.end + 15 }
 {
-    let at_colon = write_field(u64::from(listed), output, to);
-    let at_reason = write_words(b":", output, at_colon);
-    decimal::write_decimal(u64::from(reason), output, at_reason)
+    write_field(page, u64::from(record));
+    page.push(b':');
+    page.write_decimal(u64::from(reason));
 }
 
-fn write_listings(n: usize, records: &[u32], reasons: &[u8], output: &mut [u8], to: usize) -> usize
-    requires { (n ≤ length records.now) × (n ≤ length reasons.now) × (to + 15 * n ≤ length output.old) }
-    ensures stored { Stored (listings_text n records.now reasons.now) output.old to output.new result }
-    ensures upper_bound { result ≤ to + 15 * n }
+// The handover list, each record with its reason.
+fn write_list(page: &mut Page, records: &[u32], reasons: &[u8])
+    requires alike { length reasons.now ≡ length records.now }
+    requires room { HasRoom (15 * length records.now + 2) page.old }
+    ensures appended { Appends (list_text (length records.now) records.now reasons.now) page.old page.new }
+    ensures upper_bound { page.new.end ≤ page.old.end + 15 * length records.now + 2 }
 {
-    let mut end = to;
-    for i in 0..n {
-        end = write_listed(records[i], reasons[i], output, end);
+    page.write(b"L");
+    for (&record, &reason) in records.iter().zip(reasons) {
+        write_listed(page, record, reason);
     }
-    end
+    page.push(b'\n');
 }
 
-// Writes the first n places of the handover list.
-fn write_list(n: usize, records: &[u32], reasons: &[u8], output: &mut [u8], to: usize) -> usize
-    requires { (n ≤ length records.now) × (n ≤ length reasons.now) × (to + 15 * n + 2 ≤ length output.old) }
-    ensures stored { Stored (list_text n records.now reasons.now) output.old to output.new result }
-    ensures upper_bound { result ≤ to + 15 * n + 2 }
+fn write_ledger(page: &mut Page, ledger: Ledger)
+    requires { HasRoom 422 page.old }
+    ensures appended { Appends (ledger_text ledger) page.old page.new }
+    ensures upper_bound { page.new.end ≤ page.old.end + 422 }
 {
-    let at_listings = write_words(b"L", output, to);
-    let end = write_listings(n, records, reasons, output, at_listings);
-    end_line(output, end)
+    write_line(page, b"T", &<[u64; COUNTS]>::from(ledger));
 }
 
-fn write_ledger(ledger: Ledger, output: &mut [u8], to: usize) -> usize
-    requires { to + 422 ≤ length output.old }
-    ensures stored { Stored (ledger_text ledger) output.old to output.new result }
-    ensures upper_bound { result ≤ to + 422 }
+// The handover list, and which of the family's records are marked.
+fn write_lists(page: &mut Page, listed: usize, left: &Left<'_>)
+    requires records { listed ≤ length left.now.listed.now }
+    requires reasons { listed ≤ length left.now.reasons.now }
+    requires marks { 8 ≤ length left.now.marks.now }
+    requires room { HasRoom (15 * listed + 172) page.old }
+    ensures appended { Appends (lists_text listed (left_shown left.now)) page.old page.new }
+    ensures upper_bound { page.new.end ≤ page.old.end + 15 * listed + 172 }
 {
-    let reasons = ledger.reasons;
-    let counts = [
-        ledger.families,
-        ledger.records,
-        reasons[0],
-        reasons[1],
-        reasons[2],
-        reasons[3],
-        reasons[4],
-        reasons[5],
-        reasons[6],
-        reasons[7],
-        reasons[8],
-        reasons[9],
-        ledger.passed_over,
-        ledger.no_strand,
-        ledger.used,
-        ledger.disagreement_rejected,
-        ledger.duplexes,
-        ledger.bases,
-        ledger.duplex_bases,
-        ledger.disagreements,
-    ];
-    write_line(b"T", &counts, output, to)
+    write_list(page, &left.listed[..listed], &left.reasons[..listed]);
+    write_line(page, b"M", &left.marks[..8]);
 }
 
-// Writes the first n places of the twelve result columns.
-fn write_columns(
-    n: usize,
-    d_bases: &[u8],
-    d_quals: &[u8],
-    d_depths: &[u16],
-    d_errors: &[u16],
-    s1_bases: &[u8],
-    s1_quals: &[u8],
-    s1_depths: &[u16],
-    s1_errors: &[u16],
-    s2_bases: &[u8],
-    s2_quals: &[u8],
-    s2_depths: &[u16],
-    s2_errors: &[u16],
-    output: &mut [u8],
-    to: usize,
-) -> usize
-    requires holding { Holding n (strand d_bases.now d_quals.now d_depths.now d_errors.now) }
-    requires holding_2 { Holding n (strand s1_bases.now s1_quals.now s1_depths.now s1_errors.now) }
-    requires holding_3 { Holding n (strand s2_bases.now s2_quals.now s2_depths.now s2_errors.now) }
-    requires n_in_bounds { to + 51 * n + 39 ≤ length output.old }
-    ensures stored { Stored
-        (columns_text n
-        (duplex d_bases.now d_quals.now d_depths.now d_errors.now)
-        (strand s1_bases.now s1_quals.now s1_depths.now s1_errors.now)
-        (strand s2_bases.now s2_quals.now s2_depths.now s2_errors.now))
-        output.old to output.new result }
-    ensures upper_bound { result ≤ to + 51 * n + 39 }
+// The first n places of the twelve result columns.
+fn write_columns(page: &mut Page, n: usize, left: &Left<'_>)
+    requires duplex { Holding n (strand_of left.now.duplex) }
+    requires r1 { Holding n (strand_of left.now.r1) }
+    requires r2 { Holding n (strand_of left.now.r2) }
+    requires room { HasRoom (51 * n + 39) page.old }
+    ensures appended { Appends (columns_text n (left_shown left.now).duplex (left_shown left.now).r1 (left_shown left.now).r2) page.old page.new }
+    ensures upper_bound { page.new.end ≤ page.old.end + 51 * n + 39 }
 {
-    let at_r1 = write_strand(b'D', n, d_bases, d_quals, d_depths, d_errors, output, to);
-    let at_r2 = write_strand(
-        b'1', n, s1_bases, s1_quals, s1_depths, s1_errors, output, at_r1,
-    );
-    write_strand(
-        b'2', n, s2_bases, s2_quals, s2_depths, s2_errors, output, at_r2,
-    )
+    write_strand(page, b'D', n, &left.duplex);
+    write_strand(page, b'1', n, &left.r1);
+    write_strand(page, b'2', n, &left.r2);
 }
 
-// Writes the answer from place `to` on, and answers the place after it.
-pub fn write_family_answer(
-    answer: Answer,
-    listed: &[u32],
-    reasons: &[u8],
-    marks: &[u64],
-    d_bases: &[u8],
-    d_quals: &[u8],
-    d_depths: &[u16],
-    d_errors: &[u16],
-    s1_bases: &[u8],
-    s1_quals: &[u8],
-    s1_depths: &[u16],
-    s1_errors: &[u16],
-    s2_bases: &[u8],
-    s2_quals: &[u8],
-    s2_depths: &[u16],
-    s2_errors: &[u16],
-    output: &mut [u8],
-    to: usize,
-) -> usize
-    requires answered { Answered answer
-        (lent_of (duplex d_bases.now d_quals.now d_depths.now d_errors.now) (strand s1_bases.now s1_quals.now s1_depths.now s1_errors.now) (strand s2_bases.now s2_quals.now s2_depths.now s2_errors.now) listed.now reasons.now marks.now) }
-    requires to_in_bounds { to + 112813 ≤ length output.old }
-    ensures stored { Stored
-        (family_text answer
-        (lent_of (duplex d_bases.now d_quals.now d_depths.now d_errors.now) (strand s1_bases.now s1_quals.now s1_depths.now s1_errors.now) (strand s2_bases.now s2_quals.now s2_depths.now s2_errors.now) listed.now reasons.now marks.now))
-        output.old to output.new result }
-    ensures upper_bound { result ≤ to + 112813 }
+// Writes the answer behind what the page has.
+pub fn write_family_answer(page: &mut Page, answer: Answer, left: &Left<'_>)
+    requires answered { Answered answer (left_shown left.now) }
+    requires room { HasRoom 112813 page.old }
+    ensures appended { Appends (family_text answer (left_shown left.now)) page.old page.new }
+    ensures upper_bound { page.new.end ≤ page.old.end + 112813 }
 {
-    let ending = answer.ending;
-    let ledger = answer.ledger;
-    let after_ending = write_ending(ending, output, to);
-    if let Ending::Refused(_, _) = ending {
-        return write_ledger(ledger, output, after_ending);
+    write_ending(page, answer.ending);
+    match answer.ending {
+        Ending::Refused(_) => {}
+        Ending::Called(length) => {
+            write_lists(page, answer.listed, left);
+            write_columns(page, length as usize, left);
+        }
+        _ => write_lists(page, answer.listed, left),
     }
-    let at_marks = write_list(answer.listed, listed, reasons, output, after_ending);
-    let after_marks = write_line(b"M", &marks[..8], output, at_marks);
-    let Ending::Called(length) = ending else {
-        return write_ledger(ledger, output, after_marks);
-    };
-    let at_ledger = write_columns(
-        length as usize,
-        d_bases,
-        d_quals,
-        d_depths,
-        d_errors,
-        s1_bases,
-        s1_quals,
-        s1_depths,
-        s1_errors,
-        s2_bases,
-        s2_quals,
-        s2_depths,
-        s2_errors,
-        output,
-        after_marks,
-    );
-    write_ledger(ledger, output, at_ledger)
+    write_ledger(page, answer.ledger);
 }

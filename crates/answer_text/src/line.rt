@@ -1,13 +1,14 @@
 // A line of text: its words, its fields and a line feed.
-ghost use Rattle.std.specs.Prelude.{◌≡◌, ℕ, [], ◌∷◌, ◌+◌, ◌*◌, ◌≤◌, length};
-ghost use Rattle.table_text.specs.Decimal.{decimal as digits};
-ghost use Rattle.table_text.specs.OutputTable.{Stored};
-ghost use Rattle.table_text.specs.Text.{space, line_feed};
+ghost use Rattle.std.specs.Prelude.{ℕ, ◌∷◌, ◌≡◌, ◌+◌, ◌*◌, ◌≤◌, length};
+ghost use Rattle.table_text.specs.Decimal.{decimal};
+ghost use Rattle.table_text.specs.Page.{HasRoom, Appends};
+ghost use Rattle.table_text.specs.Text.{space};
 ghost use Rattle.answer_text.specs.Line.{fields_by, line_by};
 
-use table_text::{copying, decimal};
+use table_text::page::Page;
 
 // A number that a field holds, and the most bytes of the field: a space and the digits.
+// Into<u64> does not say how many digits a number of the type has.
 pub trait Field: Copy {
     ghost number: { Self → ℕ };
 
@@ -15,9 +16,10 @@ pub trait Field: Copy {
 
     fn number(self) -> u64
         ensures value { result ≡ number self }
-        ensures narrow { 1 + length (digits result) ≤ widest };
+        ensures narrow { 1 + length (decimal result) ≤ widest };
 }
 
+#[tactic(auto, using(crate::proofs::Lines::byte_digits))]
 impl Field for u8 {
     ghost number = { λ n. n };
 
@@ -28,6 +30,7 @@ impl Field for u8 {
     }
 }
 
+#[tactic(auto, using(crate::proofs::Lines::short_digits))]
 impl Field for u16 {
     ghost number = { λ n. n };
 
@@ -38,6 +41,7 @@ impl Field for u16 {
     }
 }
 
+#[tactic(auto, using(crate::proofs::Lines::long_digits))]
 impl Field for u64 {
     ghost number = { λ n. n };
 
@@ -48,48 +52,31 @@ impl Field for u64 {
     }
 }
 
-pub fn write_words(words: &[u8], output: &mut [u8], to: usize) -> usize
-    requires { to + length words.now ≤ length output.old }
-    ensures { Stored words.now output.old to output.new result }
+// A number after a space.
+pub fn write_field(page: &mut Page, n: u64)
+    requires { HasRoom (1 + length (decimal n)) page.old }
+    ensures { Appends (space ∷ decimal n) page.old page.new }
 {
-    to + copying::copy_bytes(words, &mut output[to..])
+    page.push(b' ');
+    page.write_decimal(n);
 }
 
-// Writes a number after a space.
-pub fn write_field(n: u64, output: &mut [u8], to: usize) -> usize
-    requires { to + 1 + length (digits n) ≤ length output.old }
-    ensures { Stored (space ∷ digits n) output.old to output.new result }
+pub fn write_fields<N: Field>(page: &mut Page, numbers: &[N])
+    requires { HasRoom (N.widest * length numbers.now) page.old }
+    ensures appended { Appends (fields_by N.number numbers.now) page.old page.new }
+    ensures upper_bound { page.new.end ≤ page.old.end + N.widest * length numbers.now }
 {
-    output[to] = b' ';
-    decimal::write_decimal(n, output, to + 1)
-}
-
-pub fn write_fields<N: Field>(numbers: &[N], output: &mut [u8], to: usize) -> usize
-    requires { to + N.widest * length numbers.now ≤ length output.old }
-    ensures stored { Stored (fields_by N.number numbers.now) output.old to output.new result }
-    ensures upper_bound { result ≤ to + N.widest * length numbers.now }
-{
-    let mut end = to;
     for n in numbers {
-        end = write_field(n.number(), output, end);
+        write_field(page, n.number());
     }
-    end
 }
 
-pub fn end_line(output: &mut [u8], to: usize) -> usize
-    requires { to + 1 ≤ length output.old }
-    ensures { Stored (line_feed ∷ []) output.old to output.new result }
+pub fn write_line<N: Field>(page: &mut Page, words: &[u8], numbers: &[N])
+    requires { HasRoom (length words.now + N.widest * length numbers.now + 1) page.old }
+    ensures appended { Appends (line_by N.number words.now numbers.now) page.old page.new }
+    ensures upper_bound { page.new.end ≤ page.old.end + length words.now + N.widest * length numbers.now + 1 }
 {
-    output[to] = b'\n';
-    to + 1
-}
-
-pub fn write_line<N: Field>(words: &[u8], numbers: &[N], output: &mut [u8], to: usize) -> usize
-    requires { to + length words.now + N.widest * length numbers.now + 1 ≤ length output.old }
-    ensures stored { Stored (line_by N.number words.now numbers.now) output.old to output.new result }
-    ensures upper_bound { result ≤ to + length words.now + N.widest * length numbers.now + 1 }
-{
-    let at_fields = write_words(words, output, to);
-    let end = write_fields(numbers, output, at_fields);
-    end_line(output, end)
+    page.write(words);
+    write_fields(page, numbers);
+    page.push(b'\n');
 }

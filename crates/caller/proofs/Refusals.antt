@@ -1,14 +1,18 @@
--- Laws of a refusal, and of one that another comes before.
-use mathlib.Core.Bool.{false, false≢true}
-use mathlib.Core.Path.{◌≡◌, refl, sym}
-use Rattle.caller.specs.Refusals.{is_refusal, or_else}
-use Rattle.caller.specs.declared.refusal.Refusal.{Refusal}
-use Rattle.caller.specs.declared.refusal.Refusal.TheVariants.{NoRefusal, Refused}
+-- Where nothing is refused, no cause holds.
+use mathlib.Core.Bool.{Bool, true, false, cond}
+use mathlib.Core.Path.{◌≡◌, refl}
+use Rattle.std.specs.Prelude.{Result, Ok, Err, is_err}
+use Rattle.std.specs.Result.{result_and}
 
-pub no_refusal : (r : Refusal) → is_refusal r ≡ false → r ≡ NoRefusal
-no_refusal NoRefusal e = refl
-no_refusal (Refused number given) e = absurd (false≢true (sym e))
+module _ {E : Type 0} where
+  pub accepted : (r : Result Unit E) → is_err r ≡ false → r ≡ Ok tt
+  accepted (Ok done) e = refl
+  accepted (Err why) e = cc
 
-pub neither_refuses : (first next : Refusal) → is_refusal (or_else first next) ≡ false → (is_refusal first ≡ false) × (is_refusal next ≡ false)
-neither_refuses NoRefusal next e = (refl, e)
-neither_refuses (Refused number given) next e = absurd (false≢true (sym e))
+  pub passed : (cause : Bool) (why : E) (next : Result Unit E) → cond cause (Err why) next ≡ Ok tt → (cause ≡ false) × (next ≡ Ok tt)
+  passed true why next e = cc
+  passed false why next e = (refl, e)
+
+  pub both_passed : (first next : Result Unit E) → result_and first next ≡ Ok tt → (first ≡ Ok tt) × (next ≡ Ok tt)
+  both_passed (Ok done) next e = (refl, e)
+  both_passed (Err why) next e = cc

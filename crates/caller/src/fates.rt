@@ -1,4 +1,5 @@
-// The fate of a record, a number: 1 to 10 is the reason of a rejection, and these are the others.
+// The fate of a record, a number: 1 to 10 is the reason of a rejection, and these are the others. A byte and no enum: one whose rejection has
+// its reason takes two bytes, and no scan over such is vector code; one of a byte names the ten reasons a second time, and is no plainer.
 ghost use Rattle.std.specs.Prelude.{◌≡◌};
 ghost use Rattle.caller.specs.Fates.{first_fate, is_rejection, is_marked};
 

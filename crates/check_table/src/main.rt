@@ -33,15 +33,7 @@ fn answer_pair<R: Alloc + Print, F: Read + Drop>(rt: &R, ours: F, theirs: F) -> 
 }
 
 // Of a file that cannot be opened, a line on standard error says why.
-fn open_table<R: Files + Print + Eprint>(
-    rt: &R,
-    name: &str,
-    titled: bool,
-    after: &str,
-) -> io::Result<Option<R::File>> {
-    if titled {
-        print!(rt; "{name}{after}")?;
-    }
+fn open_table<R: Files + Eprint>(rt: &R, name: &str) -> io::Result<Option<R::File>> {
     match fs::open(rt, name) {
         Ok(file) => Ok(Some(file)),
         Err(error) => {
@@ -51,22 +43,29 @@ fn open_table<R: Files + Print + Eprint>(
     }
 }
 
+// Where several pairs are named, each file's name is written before it is opened (a flag, asked before each of the two).
 fn run_pair<R: Files + Alloc + Print + Eprint>(
     rt: &R,
     first: &str,
     second: &str,
     titled: bool,
 ) -> io::Result<()> {
-    let Some(ours) = open_table(rt, first, titled, " ")? else {
+    if titled {
+        print!(rt; "{first} ")?;
+    }
+    let Some(ours) = open_table(rt, first)? else {
         return Ok(());
     };
-    let Some(theirs) = open_table(rt, second, titled, ": ")? else {
+    if titled {
+        print!(rt; "{second}: ")?;
+    }
+    let Some(theirs) = open_table(rt, second)? else {
         return Ok(());
     };
     answer_pair(rt, ours, theirs)
 }
 
-// A name without a second behind it is passed over.
+// Two names a turn, which no adapter of an iterator gives. A name without a second behind it is passed over.
 fn run_pairs<R: Files + Env + Alloc + Print + Eprint>(rt: &R) -> io::Result<()> {
     let mut names = env::args(rt)?.skip(1);
     let titled = 2 < names.len();

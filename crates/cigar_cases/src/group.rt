@@ -1,47 +1,52 @@
 // Alignment groups of three records.
-ghost use Rattle.std.specs.Prelude.{◌+◌, ◌≤◌, length};
+ghost use Rattle.std.specs.Prelude.{◌≤◌};
 
-use crate::show::{put, put_answer};
-use crate::text::words_of;
+use crate::cigar::Cigar;
+use crate::show::yes_or_no;
 use std::io;
 use vanilla_caller::group::select_most_common_alignment_group;
 use vanilla_caller::side::Side;
 
-// The number of operations, the clipped length and the orientation of a record.
-#[derive(Drop)]
-pub struct Read {
-    pub count: u32,
+// The CIGAR, the clipped length and the orientation of a record.
+#[derive(Clone, Copy)]
+pub struct Read<'a> {
+    pub cigar: &'a str,
     pub clipped: u32,
     pub reverse: bool,
 }
 
-fn put_stays(rt: &impl Print, stays: &[bool; 3]) -> io::Result<()> {
-    put_answer(rt, b"", stays[0])?;
-    put_answer(rt, b"", stays[1])?;
-    put_answer(rt, b"", stays[2])?;
-    put(rt, b"\n")
+// Copies the operations of a record to their place among all, and answers how many they are.
+fn copy_operations(read: Read<'_>, ops: &mut [u32; 192], start: usize) -> u32
+    requires { start ≤ 128 }
+    ensures { result ≤ 64 }
+{
+    let cigar = Cigar::parse(read.cigar);
+    let words = cigar.words();
+    ops[start..start + words.len()].copy_from_slice(words);
+    words.len() as u32
 }
 
-// Which of three records stay; their operations are written one after the other.
-pub fn show_group(rt: &impl Print, cigars: &[u8], a: Read, b: Read, c: Read) -> io::Result<()>
-    requires { a.count + b.count + c.count ≤ 64 }
-{
-    let mut words = [0u32; 64];
-    words_of(cigars, &mut words);
-    let starts = [0, a.count, a.count + b.count];
-    let counts = [a.count, b.count, c.count];
-    let clipped = [a.clipped, b.clipped, c.clipped];
-    let reverse = [a.reverse, b.reverse, c.reverse];
-    let mut stays = [false; 3];
+// Which of three records stay.
+pub fn show_group(rt: &impl Print, reads: [Read<'_>; 3]) -> io::Result<()> {
+    let [a, b, c] = reads;
+    let mut ops = [0; 192];
+    let counts = [
+        copy_operations(a, &mut ops, 0),
+        copy_operations(b, &mut ops, 64),
+        copy_operations(c, &mut ops, 128),
+    ];
     let side = Side {
-        ops: &words,
-        clipped: &clipped,
-        starts: &starts,
+        ops: &ops,
+        clipped: &[a.clipped, b.clipped, c.clipped],
+        starts: &[0, 64, 128],
         counts: &counts,
-        reverse: &reverse,
+        reverse: &[a.reverse, b.reverse, c.reverse],
     };
+    let mut stays = [false; 3];
     select_most_common_alignment_group(&side, &mut stays);
-    put(rt, b"group ")?;
-    put(rt, cigars)?;
-    put_stays(rt, &stays)
+    print!(rt; "group {}{}{}", a.cigar, b.cigar, c.cigar)?;
+    for stay in stays {
+        print!(rt; " {}", yes_or_no(stay))?;
+    }
+    println!(rt; "")
 }

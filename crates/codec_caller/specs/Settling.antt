@@ -1,9 +1,10 @@
 -- Document 01, 'A family' and 'The answers': what stands between selection and the answer. Only inner contracts need it.
-use Rattle.std.specs.Prelude.{cond, List, ◌≡◌, ℕ, ◌≤◌, ltb, length, take}
+use Rattle.std.specs.Prelude.{List, ◌≡◌, ℕ, ◌≤◌, length, take}
 use Rattle.lists.specs.Written.{written}
 use Rattle.codec_rejects.specs.Fates.{rejections}
 use Rattle.codec_rejects.specs.Handover.{mark_words, listed_records, listed_reasons}
 use Rattle.codec_select.specs.Selection.{course_of}
+use Rattle.codec_records.specs.Records.{room_of}
 use Rattle.codec_records.specs.declared.options.Options.{Options}
 use Rattle.codec_records.specs.declared.records.Record.{Record}
 use Rattle.codec_select.specs.declared.selection.Decision.{Decision}
@@ -18,11 +19,11 @@ pub record Selected (o : Options) (count : ℕ) (records : List Record) (ops : L
   pub fates_are : count ≤ 512 → fates ≡ (course_of o count records ops).fates
 
 -- what was chosen is so for some family of as many records
-pub record Chose (o : Options) (count : ℕ) (chosen : Chosen) : Type 0 where
+pub record Chose (o : Options) (chosen : Chosen) : Type 0 where
   pub records : List Record
   pub ops : List ℕ
-  pub size : length records ≡ count
-  pub selected : Selected o count records ops chosen.decision (take (cond (ltb 512 count) 0 count) chosen.fates)
+  pub size : length records ≡ chosen.given
+  pub selected : Selected o chosen.given records ops chosen.decision (take (room_of chosen.given) chosen.fates)
 
 -- all that is read off the last fates: the list by rising record number, its length, the marks, and what is counted
 pub record Settles (fates : List ℕ) (verdict : Verdict) (settlement : Settlement) (listed₀ reasons₀ marks₀ listed reasons marks : List ℕ) : Type 0 where

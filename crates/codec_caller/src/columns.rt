@@ -1,11 +1,15 @@
 // The twelve result columns.
-ghost use Rattle.std.specs.Prelude.{true, ◌≡◌};
-ghost use Rattle.codec_duplex.specs.Columns.{strand};
-ghost use Rattle.codec_duplex.specs.Duplex.{duplex};
+ghost use Rattle.std.specs.Prelude.{true, ◌≡◌, is_some};
 ghost use Rattle.codec_framing.specs.Framing.{Framable};
-ghost use Rattle.codec_caller.specs.Columns.{WrittenIf};
-ghost use Rattle.codec_family.specs.Ending.{masks_of};
+ghost use Rattle.codec_family.specs.Call.{columns_of};
+ghost use Rattle.codec_family.specs.Ending.{is_called, masks_of};
+ghost use Rattle.codec_family.specs.Lent.{lent_in, r1_of, r2_of, SameLent};
+ghost use Rattle.codec_caller.specs.Columns.{Writable, WrittenIf};
 
+use codec_duplex::strand::StrandMut;
+use codec_family::ending::Ending;
+use codec_family::lent::Lent;
+use codec_family::strands::Strands;
 use codec_framing::frame::Frame;
 use codec_framing::writing::write_duplex;
 use codec_records::options::Options;
@@ -16,63 +20,49 @@ fn masks_of(options: Options) -> Masks
 {
     Masks {
         outer_length: options.outer_bases_length,
-        has_outer_quality: options.has_outer_bases_qual,
-        outer_quality: options.outer_bases_qual,
-        has_single_strand_quality: options.has_single_strand_qual,
-        single_strand_quality: options.single_strand_qual,
+        outer_quality: options
+            .has_outer_bases_qual
+            .then_some(options.outer_bases_qual),
+        single_strand_quality: options
+            .has_single_strand_qual
+            .then_some(options.single_strand_qual),
     }
 }
 
 // Writes the duplex and both strands of a family that is called; any other touches no column.
 pub fn write_columns(
-    called: bool,
+    ending: Ending,
     frame: Frame,
     options: Options,
-    r1_bases: &[u8],
-    r1_quals: &[u8],
-    r1_depths: &[u16],
-    r1_errors: &[u16],
-    r2_bases: &[u8],
-    r2_quals: &[u8],
-    r2_depths: &[u16],
-    r2_errors: &[u16],
-    d_bases: &mut [u8],
-    d_quals: &mut [u8],
-    d_depths: &mut [u16],
-    d_errors: &mut [u16],
-    s1_bases: &mut [u8],
-    s1_quals: &mut [u8],
-    s1_depths: &mut [u16],
-    s1_errors: &mut [u16],
-    s2_bases: &mut [u8],
-    s2_quals: &mut [u8],
-    s2_depths: &mut [u16],
-    s2_errors: &mut [u16],
+    strands: &Strands<'_>,
+    lent: &mut Lent<'_>,
 )
-    requires { called ≡ true →
-        Framable frame
-        (strand r1_bases.now r1_quals.now r1_depths.now r1_errors.now)
-        (strand r2_bases.now r2_quals.now r2_depths.now r2_errors.now)
-        (duplex d_bases.old d_quals.old d_depths.old d_errors.old)
-        (strand s1_bases.old s1_quals.old s1_depths.old s1_errors.old)
-        (strand s2_bases.old s2_quals.old s2_depths.old s2_errors.old) }
-    ensures { WrittenIf called frame (masks_of options)
-        (strand r1_bases.now r1_quals.now r1_depths.now r1_errors.now)
-        (strand r2_bases.now r2_quals.now r2_depths.now r2_errors.now)
-        (duplex d_bases.old d_quals.old d_depths.old d_errors.old)
-        (duplex d_bases.new d_quals.new d_depths.new d_errors.new)
-        (strand s1_bases.old s1_quals.old s1_depths.old s1_errors.old)
-        (strand s1_bases.new s1_quals.new s1_depths.new s1_errors.new)
-        (strand s2_bases.old s2_quals.old s2_depths.old s2_errors.old)
-        (strand s2_bases.new s2_quals.new s2_depths.new s2_errors.new) }
+    requires { is_called ending ≡ true → Writable frame (r1_of strands.now) (r2_of strands.now) (lent_in lent.old) }
+    ensures written { WrittenIf (is_called ending) frame (masks_of options)
+        (columns_of (r1_of strands.now)) (columns_of (r2_of strands.now)) (lent_in lent.old) (lent_in lent.new) }
+    ensures same { SameLent lent.old lent.new }
 {
-    if !called {
+    let (Ending::Called(_), Some(r1), Some(r2)) = (ending, strands.r1, strands.r2) else {
         return;
-    }
+    };
+    let mut duplex = StrandMut {
+        bases: &mut *lent.duplex_bases,
+        quals: &mut *lent.duplex_quals,
+        depths: &mut *lent.duplex_depths,
+        errors: &mut *lent.duplex_errors,
+    };
+    let mut s1 = StrandMut {
+        bases: &mut *lent.r1_bases,
+        quals: &mut *lent.r1_quals,
+        depths: &mut *lent.r1_depths,
+        errors: &mut *lent.r1_errors,
+    };
+    let mut s2 = StrandMut {
+        bases: &mut *lent.r2_bases,
+        quals: &mut *lent.r2_quals,
+        depths: &mut *lent.r2_depths,
+        errors: &mut *lent.r2_errors,
+    };
     let masks = masks_of(options);
-    write_duplex(
-        frame, masks, r1_bases, r1_quals, r1_depths, r1_errors, r2_bases, r2_quals, r2_depths,
-        r2_errors, d_bases, d_quals, d_depths, d_errors, s1_bases, s1_quals, s1_depths, s1_errors,
-        s2_bases, s2_quals, s2_depths, s2_errors,
-    );
+    write_duplex(frame, masks, &r1, &r2, &mut duplex, &mut s1, &mut s2);
 }

@@ -14,11 +14,10 @@ use Rattle.codec_stats.specs.declared.ledger.Ledger.{Ledger}
 use Rattle.codec_stats.proofs.Adding.{plus_ten, counter-fresh, counter-plus, filtered-fresh, filtered-plus}
 use Rattle.codec_conservation.specs.Chain.{Made, ChainFrom, Chain, last_from, calls_of, unrefused, duplexes, disagreeing, Each}
 use Rattle.codec_conservation.specs.Conserved.{Marked, first_bases, second_bases, Claims, Conserved}
-use Rattle.codec_framing.specs.Framing.{tally_of}
 use Rattle.codec_rejects.specs.Fates.{with_fate}
 use Rattle.codec_family.specs.Answer.{reported, says_refused, says_called, says_disagreeing}
 use Rattle.codec_family.specs.Counted.{ended_by_disagreement, counted_by, counted}
-use Rattle.codec_family.specs.Ending.{is_called, called_length, ending, frame}
+use Rattle.codec_family.specs.Ending.{is_called, called_length, ending, frame, tally_between}
 use Rattle.codec_family.specs.Fates.{fates, Fated}
 use Rattle.codec_family.specs.declared.answer.FamilyEnding.{FamilyEnding}
 use Rattle.codec_family.specs.declared.ending.Ending.{Ending}
@@ -74,7 +73,7 @@ says_called_lem endings.Empty = refl
 says_called_lem endings.NoStrand = refl
 says_called_lem (endings.Rejected reason) = refl
 says_called_lem (endings.Disagreeing limit) = refl
-says_called_lem (endings.Refused number given) = refl
+says_called_lem (endings.Refused refusal) = refl
 
 says_disagreeing_lem : (e : Ending) → says_disagreeing (reported e) ≡ ended_by_disagreement e
 says_disagreeing_lem (endings.Called length) = refl
@@ -82,7 +81,7 @@ says_disagreeing_lem endings.Empty = refl
 says_disagreeing_lem endings.NoStrand = refl
 says_disagreeing_lem (endings.Rejected reason) = refl
 says_disagreeing_lem (endings.Disagreeing limit) = refl
-says_disagreeing_lem (endings.Refused number given) = refl
+says_disagreeing_lem (endings.Refused refusal) = refl
 
 says_length : (e : Ending) → (reported e).length ≡ called_length e
 says_length (endings.Called length) = refl
@@ -90,7 +89,7 @@ says_length endings.Empty = refl
 says_length endings.NoStrand = refl
 says_length (endings.Rejected reason) = refl
 says_length (endings.Disagreeing limit) = refl
-says_length (endings.Refused number given) = refl
+says_length (endings.Refused refusal) = refl
 
 -- only a duplex that is called has a length
 length_where_called : (e : Ending) → called_length e ≡ cond (is_called e) (called_length e) 0
@@ -99,7 +98,7 @@ length_where_called endings.Empty = refl
 length_where_called endings.NoStrand = refl
 length_where_called (endings.Rejected reason) = refl
 length_where_called (endings.Disagreeing limit) = refl
-length_where_called (endings.Refused number given) = refl
+length_where_called (endings.Refused refusal) = refl
 
 -- what is counted where the steps call a duplex is counted where the answer is called
 where_called : (answered : FamilyEnding) (e : Ending) → answered ≡ reported e → (count : ℕ) (of : ℕ → ℕ) → (is_called e ≡ true → count ≡ of (called_length e)) → cond (is_called e) count 0 ≡ cond (says_called answered) (of answered.length) 0
@@ -181,7 +180,7 @@ module _ (taken : List Made) (each : Each Taken taken) where
       figure_where Ledger.duplex_bases says_called (λ m. count_below (both_call (first_bases m) (second_bases m)) m.answer.ending.length) refl
       (λ l m ten t.
       ap (λ (n : ℕ). l.duplex_bases + n)
-      (where_called m.answer.ending (ending m.call) t.ended (tally_of (frame m.call) m.call.r1.bases m.call.r2.bases).bases (λ (n : ℕ). count_below (both_call (first_bases m) (second_bases m)) n)
+      (where_called m.answer.ending (ending m.call) t.ended (tally_between (frame m.call) m.call.r1 m.call.r2).bases (λ (n : ℕ). count_below (both_call (first_bases m) (second_bases m)) n)
       (λ e. (called-tally m.call e).0)))
 
   disagreements_are : counts.disagreements ≡ total (λ m. count_below (disagree (first_bases m) (second_bases m)) m.answer.ending.length) (duplexes taken)
@@ -190,7 +189,7 @@ module _ (taken : List Made) (each : Each Taken taken) where
       figure_where Ledger.disagreements says_called (λ m. count_below (disagree (first_bases m) (second_bases m)) m.answer.ending.length) refl
       (λ l m ten t.
       ap (λ (n : ℕ). l.disagreements + n)
-      (where_called m.answer.ending (ending m.call) t.ended (tally_of (frame m.call) m.call.r1.bases m.call.r2.bases).disagreements (λ (n : ℕ). count_below (disagree (first_bases m) (second_bases m)) n)
+      (where_called m.answer.ending (ending m.call) t.ended (tally_between (frame m.call) m.call.r1 m.call.r2).disagreements (λ (n : ℕ). count_below (disagree (first_bases m) (second_bases m)) n)
       (λ e. (called-tally m.call e).1)))
 
   -- what a fresh ledger counts of a list of calls that are taken

@@ -3,6 +3,7 @@ use mathlib.Core.List.{List, [], ◌∷◌}
 use mathlib.Core.Path.{◌≡◌, refl, sym, ap}
 use Prim.Native.Nat.{ℕ}
 use lib.ListN.{length, replicate, length-replicate}
+use Rattle.std.specs.Prelude.{Result}
 use Rattle.lists.specs.Written.{written}
 use Rattle.caller.specs.declared.refusal.Refusal.{Refusal}
 use Rattle.codec_duplex.specs.Columns.{Strand, strand}
@@ -39,7 +40,7 @@ lent_to c =
     }
 
 -- what the contract makes of four columns
-module _ (c : Call) (r : Refusal) where
+module _ (c : Call) (r : Result Unit Refusal) where
   abbrev pub strand_after : Strand → Strand → Strand
   strand_after result old =
       strand (column_after c r result.bases old.bases) (column_after c r result.quals old.quals)

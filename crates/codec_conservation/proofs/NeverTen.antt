@@ -1,5 +1,5 @@
 -- What follows from the contract: from a fresh ledger refusal 10 never comes.
-use mathlib.Core.Bool.{Bool, true, false, not, ◌&&◌, ◌||◌, false≢true}
+use mathlib.Core.Bool.{Bool, true, false, cond, not, ◌||◌, false≢true}
 use mathlib.Core.List.{List, [], ◌∷◌}
 use mathlib.Core.Path.{◌≡◌, refl, sym, ◌∙◌, ap}
 use Prim.Native.Nat.{ℕ, ◌+◌, ◌*◌, ◌≤◌, ◌<◌}
@@ -7,16 +7,18 @@ use native.Mathlib.Omega.{arith}
 use borrow.Author.Tests.{eqb-false, le-leb, le-ltb}
 use lib.Dec.{leb, ltb}
 use lib.ListN.{length, get_or}
-use Rattle.std.specs.Prelude.{Option, None, Some}
+use Rattle.std.specs.Prelude.{Option, None, Some, Result, Ok, Err}
+use Rattle.std.specs.Result.{IfErr, result_and, result_map_both}
 use Rattle.std.specs.List.{list_all}
-use Rattle.std.proofs.lemmas.Bool.{cond_both}
 use Rattle.std.proofs.lemmas.List.Folds.{list_all-append}
 use Rattle.lists.proofs.Every.{list_all_of}
 use Rattle.lists.proofs.Places.{get_d_repeated}
 use Rattle.lists.proofs.Tabulate.{get_d_tabulate, length-tabulate}
-use Rattle.caller.specs.Refusals.{is_refusal, or_else, refused_if}
+use Rattle.caller.specs.Refusals.{number_of}
+use Rattle.caller.specs.declared.refusal.LedgerRefusal.TheVariants.{TooLarge, Full}
+use Rattle.caller.specs.declared.refusal.ReadType.TheVariants.{R1, R2}
 use Rattle.caller.specs.declared.refusal.Refusal.{Refusal}
-use Rattle.caller.specs.declared.refusal.Refusal.TheVariants as refusals
+use Rattle.caller.specs.declared.refusal.Refusal.TheVariants.{MinimumTooLong, TooManyRecords, BadPart, BadOperation, BadLength, BadPlace, BadColumns, BadBase, TooNarrow, Ledger as OfLedger}
 use Rattle.codec_pairing.specs.Refusals.{has_bad_part, has_bad_words, has_bad_bases, has_bad_place, lowest_bad, refused_at, refusal_of_records, first_refusal, Reads, reads}
 use Rattle.codec_select.specs.Alignments.{alignments_of}
 use Rattle.codec_records.specs.Records.{column}
@@ -25,17 +27,18 @@ use Rattle.codec_records.specs.declared.records.Record.{Record}
 use Rattle.codec_stats.specs.Ledger.{fresh, record_counters, other_counts, too_large, full, of_counts, plus}
 use Rattle.codec_stats.specs.declared.ledger.Ledger.{Ledger}
 use Rattle.codec_family.specs.Answer.{reported, says_refused, refused_number}
-use Rattle.codec_family.specs.Call.{Call, widths_of}
+use Rattle.codec_duplex.specs.Columns.{Strand}
+use Rattle.codec_family.specs.Call.{Call}
 use Rattle.codec_family.specs.Counted.{counted}
 use Rattle.codec_family.specs.Ending.{ending}
 use Rattle.codec_family.specs.FamilyCalled.{unless_refused, ending_with}
-use Rattle.codec_family.specs.Refusals.{refusal, of_call, of_records, bad_columns, bad_bases, of_strands, too_narrow}
+use Rattle.codec_family.specs.Refusals.{refusal, of_call, of_records, bad_columns, bad_bases, in_strand, of_strands, too_narrow, of_room}
 use Rattle.codec_family.specs.declared.answer.FamilyEnding.{FamilyEnding}
 use Rattle.codec_family.specs.declared.ending.Ending.{Ending}
 use Rattle.codec_family.proofs.Answering.{stands_answered}
 use Rattle.codec_family.proofs.Counting.{Few, counted_few}
-use Rattle.caller.proofs.Refusals.{neither_refuses}
-use Rattle.codec_family.proofs.Refusing.{cause_fails, records_stand, call_stands}
+use Rattle.caller.proofs.Refusals.{both_passed}
+use Rattle.codec_family.proofs.Refusing.{records_stand, call_stands}
 use Rattle.codec_family.proofs.Settled.{Stands, ending-unrefused}
 use Rattle.codec_conservation.specs.Chain.{Made, Handed, ChainFrom, Chain, Each}
 use Rattle.codec_conservation.proofs.Taking.{left_alone, unrefused, added, taken, taken_fated}
@@ -118,38 +121,34 @@ bounded_small l b = rw (le-ltb 268435456 l.families b.families) (ap not others)
         (rw (fits l.disagreement_rejected (omega (arith, b.rejected)), fits l.duplexes (omega (arith, b.duplexes)), fits l.bases b.bases, fits l.duplex_bases b.duplex_bases, fits l.disagreements b.disagreements)))
 
 -- a refusal of another number
-abbrev pub NotTen : Refusal → Type 0
-NotTen refusals.NoRefusal = Unit {0}
-NotTen (refusals.Refused number given) = number ≡ 10 → ⊥
+abbrev pub NotTen : Result Unit Refusal → Type 0
+NotTen r = IfErr r (λ why. number_of why ≡ 10 → ⊥)
 
-pub or_else_lem : (first next : Refusal) → NotTen first → NotTen next → NotTen (or_else first next)
-or_else_lem refusals.NoRefusal next p q = q
-or_else_lem (refusals.Refused number given) next p q = p
+pub and_not : (first next : Result Unit Refusal) → NotTen first → NotTen next → NotTen (result_and first next)
+and_not (Ok done) next p q = q
+and_not (Err why) next p q = p
 
-pub refused-if : (cause : Bool) (number given : ℕ) → (number ≡ 10 → ⊥) → NotTen (refused_if cause number given)
-refused-if true number given p = p
-refused-if false number given p = tt
+pub cause_not : (cause : Bool) (why : Refusal) (next : Result Unit Refusal) → (number_of why ≡ 10 → ⊥) → NotTen next → NotTen (cond cause (Err why) next)
+cause_not true why next p q = p
+cause_not false why next p q = q
 
-refused-not : (number : ℕ) (found : Option ℕ) → (number ≡ 10 → ⊥) → NotTen (refused_at number found)
-refused-not number None p = tt
-refused-not number (Some i) p = p
+refused-not : (cause : ℕ → Refusal) (found : Option ℕ) → ((i : ℕ) → number_of (cause i) ≡ 10 → ⊥) → NotTen (refused_at cause found)
+refused-not cause None p = tt
+refused-not cause (Some i) p = p i
 
 of_reads : (f : Reads) → NotTen (refusal_of_records f)
 unfolding refusal_of_records
 of_reads f =
-    let part = lowest_bad (has_bad_part f.ops) f in
-    let words = lowest_bad (has_bad_words f.ops) f in
-    let bases = lowest_bad (has_bad_bases f.ops) f in
-    let place = lowest_bad (has_bad_place f.ops) f in
-    or_else_lem (refused_at 3 part) (or_else (refused_at 4 words) (or_else (refused_at 5 bases) (refused_at 6 place))) (refused-not 3 part (λ e. omega arith))
-    (or_else_lem (refused_at 4 words) (or_else (refused_at 5 bases) (refused_at 6 place)) (refused-not 4 words (λ e. omega arith))
-    (or_else_lem (refused_at 5 bases) (refused_at 6 place) (refused-not 5 bases (λ e. omega arith)) (refused-not 6 place (λ e. omega arith))))
+    and_not (refused_at BadPart (lowest_bad (has_bad_part f.ops) f)) _ (refused-not BadPart _ (λ i e. omega arith))
+    (and_not (refused_at BadOperation (lowest_bad (has_bad_words f.ops) f)) _ (refused-not BadOperation _ (λ i e. omega arith))
+    (and_not (refused_at BadLength (lowest_bad (has_bad_bases f.ops) f)) _ (refused-not BadLength _ (λ i e. omega arith))
+    (refused-not BadPlace (lowest_bad (has_bad_place f.ops) f) (λ i e. omega arith))))
 
 of_first : (minimum records : ℕ) (f : Reads) → NotTen (first_refusal minimum records f)
 unfolding first_refusal
 of_first minimum records f =
-    cond_both (ltb 2147483647 minimum) _ _ NotTen (λ _ e. omega arith)
-    (λ _. cond_both (ltb 512 records || ltb 8192 (length f.ops)) _ _ NotTen (λ _ e. omega arith) (λ _. of_reads f))
+    cause_not (ltb 2147483647 minimum) MinimumTooLong _ (λ e. omega arith)
+    (cause_not (ltb 512 records || ltb 8192 (length f.ops)) TooManyRecords _ (λ e. omega arith) (of_reads f))
 
 pub records_not : (c : Call) → NotTen (of_records c)
 unfolding of_records
@@ -158,35 +157,43 @@ records_not c =
     let a = alignments_of c.records c.ops in
     of_first c.options.min_duplex_length (length c.records) (reads own a.clipped a.positions a.starts a.counts a.ops)
 
-pub strands_not : (has_r1 bad1 base1 has_r2 bad2 base2 : Bool) → NotTen (or_else (refused_if (has_r1 && bad1) 7 0) (or_else (refused_if (has_r2 && bad2) 7 1) (or_else (refused_if (has_r1 && base1) 8 0) (refused_if (has_r2 && base2) 8 1))))
-strands_not has_r1 bad1 base1 has_r2 bad2 base2 =
-    or_else_lem (refused_if (has_r1 && bad1) 7 0) _ (refused-if (has_r1 && bad1) 7 0 (λ e. omega arith))
-    (or_else_lem (refused_if (has_r2 && bad2) 7 1) _ (refused-if (has_r2 && bad2) 7 1 (λ e. omega arith))
-    (or_else_lem (refused_if (has_r1 && base1) 8 0) (refused_if (has_r2 && base2) 8 1) (refused-if (has_r1 && base1) 8 0 (λ e. omega arith)) (refused-if (has_r2 && base2) 8 1 (λ e. omega arith))))
+strands_not : (r1 r2 : Option Strand) → NotTen (of_strands r1 r2)
+unfolding of_strands
+strands_not r1 r2 =
+    cause_not (in_strand bad_columns r1) (BadColumns R1) _ (λ e. omega arith)
+    (cause_not (in_strand bad_columns r2) (BadColumns R2) _ (λ e. omega arith)
+    (cause_not (in_strand bad_bases r1) (BadBase R1) _ (λ e. omega arith)
+    (cause_not (in_strand bad_bases r2) (BadBase R2) (Ok tt) (λ e. omega arith) tt)))
 
 -- refusals 1 to 9
 pub call_not : (c : Call) → NotTen (of_call c)
-unfolding of_call of_strands
+unfolding of_call
 call_not c =
-    or_else_lem (of_records c) _ (records_not c)
-    (or_else_lem (or_else (refused_if (c.has_r1 && bad_columns (widths_of c.r1)) 7 0) (or_else (refused_if (c.has_r2 && bad_columns (widths_of c.r2)) 7 1) (or_else (refused_if (c.has_r1 && bad_bases c.r1.bases) 8 0) (refused_if (c.has_r2 && bad_bases c.r2.bases) 8 1))))
-    (refused_if (too_narrow c.room) 9 0)
-    (strands_not c.has_r1 (bad_columns (widths_of c.r1)) (bad_bases c.r1.bases) c.has_r2 (bad_columns (widths_of c.r2)) (bad_bases c.r2.bases))
-    (refused-if (too_narrow c.room) 9 0 (λ e. omega arith)))
+    and_not (of_records c) _ (records_not c)
+    (and_not (of_strands c.r1 c.r2) (of_room c.room) (strands_not c.r1 c.r2)
+    (cause_not (too_narrow c.room) TooNarrow (Ok tt) (λ e. omega arith) tt))
+
+full-not : (full : Bool) → NotTen (result_map_both (λ done. done) OfLedger (cond full (Err Full) (Ok tt)))
+full-not true = λ e. omega arith
+full-not false = tt
 
 counts_not : (l : Ledger) → too_large l ≡ false → NotTen (of_counts l)
 unfolding of_counts
-counts_not l small = rw small (refused-if (full l) 11 0 (λ e. omega arith))
+counts_not l small = rw small (full-not (full l))
 
 ten_not : (c : Call) (l : Ledger) → too_large l ≡ false → NotTen (refusal c l)
 unfolding refusal
-ten_not c l small = or_else_lem (of_call c) (of_counts l) (call_not c) (counts_not l small)
+ten_not c l small = and_not (of_call c) (of_counts l) (call_not c) (counts_not l small)
 
 -- a call that is not refused has room for one family more
-room_for_one : (c : Call) (l : Ledger) → is_refusal (refusal c l) ≡ false → full l ≡ false
+not-full : (large full : Bool) (r : Result Unit Refusal) → r ≡ result_map_both (λ done. done) OfLedger (cond large (Err TooLarge) (cond full (Err Full) (Ok tt))) → r ≡ Ok tt → full ≡ false
+not-full true full r is none = cc
+not-full false true r is none = cc
+not-full false false r is none = refl
+
+room_for_one : (c : Call) (l : Ledger) → refusal c l ≡ Ok tt → full l ≡ false
 unfolding refusal of_counts
-room_for_one c l none =
-    cause_fails (full l) 11 0 (neither_refuses (refused_if (too_large l) 10 0) (refused_if (full l) 11 0) (neither_refuses (of_call c) _ none).1).1
+room_for_one c l none = not-full (too_large l) (full l) (of_counts l) refl (both_passed (of_call c) _ none).1
 
 pub below-full : (l : Ledger) → Bounded l → full l ≡ false → l.families < 268435456
 unfolding full
@@ -206,9 +213,9 @@ abbrev pub AnsweredTen : FamilyEnding → Type 0
 AnsweredTen e = (e.kind ≡ refused_number) × (e.number ≡ 10)
 
 -- an answer that is a refusal is the table's
-pub answered_ten : (r : Refusal) (e : Ending) → NotTen r → (is_refusal r ≡ false → Stands e) → AnsweredTen (reported (unless_refused r e)) → ⊥
-answered_ten refusals.NoRefusal e p stands ten = false≢true (sym (stands_answered e (stands refl)) ∙ rw ten.0)
-answered_ten (refusals.Refused number given) e p stands ten = p ten.1
+pub answered_ten : (r : Result Unit Refusal) (e : Ending) → NotTen r → (r ≡ Ok tt → Stands e) → AnsweredTen (reported (unless_refused r e)) → ⊥
+answered_ten (Ok done) e p stands ten = false≢true (sym (stands_answered e (stands refl)) ∙ rw ten.0)
+answered_ten (Err why) e p stands ten = p ten.1
 
 from_bounded : (l : Ledger) (made : List Made) → Bounded l → ChainFrom l made → Each (λ m. AnsweredTen m.answer.ending → ⊥) made
 unfolding ending_with

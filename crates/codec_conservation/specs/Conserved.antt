@@ -8,7 +8,7 @@ use Rattle.codec_duplex.specs.Tally.{both_call, disagree}
 use Rattle.codec_framing.specs.Framing.{padded_r1, padded_r2}
 use Rattle.codec_rejects.specs.Fates.{with_fate, marked_rejections}
 use Rattle.codec_stats.specs.Ledger.{Counts, figures, counter, filtered}
-use Rattle.codec_family.specs.Call.{Call}
+use Rattle.codec_family.specs.Call.{Call, columns_of}
 use Rattle.codec_family.specs.Ending.{frame}
 use Rattle.codec_family.specs.Fates.{fates, Fated}
 use Rattle.codec_conservation.specs.Chain.{Made, last_ledger, calls_of, unrefused, duplexes, disagreeing, Each}
@@ -21,10 +21,10 @@ pub record Marked (c : Call) (marks : List ℕ) : Type 0 where
 
 -- both strands' bases as step 9 combines them
 abbrev pub first_bases : Made → List ℕ
-first_bases m = (padded_r1 (frame m.call) m.call.r1).bases
+first_bases m = (padded_r1 (frame m.call) (columns_of m.call.r1)).bases
 
 abbrev pub second_bases : Made → List ℕ
-second_bases m = (padded_r2 (frame m.call) m.call.r2).bases
+second_bases m = (padded_r2 (frame m.call) (columns_of m.call.r2)).bases
 
 -- what a ledger's counts say of the calls not refused that it counts: the run's of all of them
 pub record Claims (counts : Counts) (taken : List Made) : Type 0 where

@@ -4,27 +4,25 @@ ghost use Rattle.codec_dispatch.specs.Dispatch as defs;
 
 use std::fmt;
 
-// Why a call is refused: a lane above 7, in the call or as the lane served last, or a lane with no room for one family more.
+// Why a call is refused, by its number: a lane above 7, in the call or as the lane served last, or a lane with no room for one
+// family more.
 #[derive(Clone, Copy, PartialEq, Eq)]
 pub enum LaneRefusal {
-    NoSuchLane,
-    LaneFull,
+    NoSuchLane = 22,
+    LaneFull = 23,
 }
 
-impl LaneRefusal {
-    pub fn number(self) -> u32
-        ensures { result ≡ defs.number_of self }
-    {
-        match self {
-            LaneRefusal::NoSuchLane => 22,
-            LaneRefusal::LaneFull => 23,
-        }
+impl From<LaneRefusal> for u32 {
+    ghost from_gives = { λ why n. n ≡ defs.number_of why };
+
+    fn from(why: LaneRefusal) -> u32 {
+        why as u32
     }
 }
 
 impl fmt::Display for LaneRefusal {
     fn fmt<W: fmt::Write>(&self, f: &mut fmt::Formatter<W>) -> fmt::Result {
-        write!(f, "refused {}", self.number())
+        write!(f, "refused {}", u32::from(*self))
     }
 }
 

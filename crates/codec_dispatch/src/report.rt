@@ -5,7 +5,7 @@ ghost use Rattle.codec_dispatch.specs.Turns.{Added, Refused, answer_of_turn};
 
 use crate::dispatch::{Dispatcher, LaneRefusal};
 
-// Kind 0 is an added family, 1 has the lane served, 2 is idle, 3 a refusal's number and what goes with it; the dispatcher is for the next call.
+// Numbers, since no enum crosses the C interface. Kind 0 is an added family, 1 has the lane served, 2 is idle, 3 a refusal's number and what goes with it; the dispatcher is for the next call.
 #[repr(C)]
 #[derive(Clone, Copy)]
 pub struct DispatchAnswer {
@@ -64,7 +64,7 @@ impl DispatchAnswer {
         DispatchAnswer {
             kind: 3,
             lane: 0,
-            number: why.number(),
+            number: u32::from(why),
             with: 0,
             dispatcher,
         }

@@ -1,2 +1,2 @@
-pub mod BasesAlone
-pub mod Laws
+pub mod Fits
+pub mod Units

@@ -1,8 +1,6 @@
 -- Strands as four columns, and the columns of their duplex.
-use Rattle.std.specs.Prelude.{Bool, true, ◌&&◌, List, [], ◌∷◌, ◌≡◌, ℕ, ◌≤◌, eqb, leb, length, get_or}
-use Rattle.std.specs.List.{list_all}
+use Rattle.std.specs.Prelude.{List, [], ◌∷◌, ◌≡◌, ℕ, ◌≤◌, length, get_or}
 use Rattle.lists.specs.Tabulate.{tabulate}
-use Rattle.lists.specs.Written.{written}
 use Rattle.codec_duplex.specs.Duplex.{Duplex}
 use Rattle.codec_duplex.specs.Position.{combined}
 use Rattle.codec_duplex.specs.declared.position.Position.{Position}
@@ -32,28 +30,22 @@ field_at field a b i = field (combined (position_at a i) (position_at b i))
 unfoldable pub combined_column : (Position → ℕ) → Strand → Strand → List ℕ
 combined_column field a b = tabulate (field_at field a b) (length a.bases)
 
--- the columns are equally long, not above 2,048, and no result is shorter
-abbrev pub columns_fit : (columns results : List ℕ) → Bool
-columns_fit [] results = true
-columns_fit (n ∷ columns) results = list_all (eqb n) columns && (leb n 2048 && list_all (leb n) results)
+-- each column has n places
+pub record HasLength (n : ℕ) (s : Strand) : Type 0 where
+  pub bases : length s.bases ≡ n
+  pub quals : length s.quals ≡ n
+  pub depths : length s.depths ≡ n
+  pub errors : length s.errors ≡ n
 
--- the same of two strands and a result, without the limit of 2,048
+-- no column has less than n places
+pub record HasRoom (n : ℕ) (d : Duplex) : Type 0 where
+  pub bases : n ≤ length d.bases
+  pub quals : n ≤ length d.quals
+  pub depths : n ≤ length d.depths
+  pub errors : n ≤ length d.errors
+
+-- the columns of two strands are equally long, and no result is shorter
 pub record Fitting (a b : Strand) (result : Duplex) : Type 0 where
-  pub a_quals : length a.quals ≡ length a.bases
-  pub a_depths : length a.depths ≡ length a.bases
-  pub a_errors : length a.errors ≡ length a.bases
-  pub b_bases : length b.bases ≡ length a.bases
-  pub b_quals : length b.quals ≡ length a.bases
-  pub b_depths : length b.depths ≡ length a.bases
-  pub b_errors : length b.errors ≡ length a.bases
-  pub bases : length a.bases ≤ length result.bases
-  pub quals : length a.bases ≤ length result.quals
-  pub depths : length a.bases ≤ length result.depths
-  pub errors : length a.bases ≤ length result.errors
-
--- the duplex fills the first places of four columns
-pub record Filled (a b : Strand) (before after : Duplex) : Type 0 where
-  pub bases : after.bases ≡ written (combined_column Position.base a b) before.bases
-  pub quals : after.quals ≡ written (combined_column Position.quality a b) before.quals
-  pub depths : after.depths ≡ written (combined_column Position.depth a b) before.depths
-  pub errors : after.errors ≡ written (combined_column Position.error a b) before.errors
+  pub first : HasLength (length a.bases) a
+  pub second : HasLength (length a.bases) b
+  pub room : HasRoom (length a.bases) result

@@ -1,7 +1,12 @@
-pub mod Bases
+pub mod Answer
+pub mod Bytes
 pub mod Columns
 pub mod Combining
 pub mod Duplex
+pub mod Filled
+pub mod Kept
+pub mod Lent
 pub mod Limits
 pub mod Position
 pub mod Tally
+pub mod Units

@@ -1,76 +1,99 @@
 // The columns of a duplex.
-ghost use Rattle.std.specs.Prelude.{[], ◌∷◌, ◌≡◌, ◌<◌, length};
-ghost use Rattle.codec_duplex.specs.Columns.{columns_fit, strand, position_at, Fitting, Filled};
-ghost use Rattle.codec_duplex.specs.Duplex.{duplex};
+ghost use Rattle.std.specs.Prelude.{Bool, ℕ, ◌≡◌, ◌≤◌, ◌<◌, length};
+ghost use Rattle.lists.specs.Written.{written};
+ghost use Rattle.codec_duplex.specs.Columns.{position_at, combined_column, HasLength, Fitting};
+ghost use Rattle.codec_duplex.specs.Filled.{Filled};
+ghost use Rattle.codec_duplex.specs.Kept.{each_length, columns_fit};
+ghost use Rattle.codec_duplex.specs.Lent.{kept_of, held, kept_in, held_in, SameLoans};
+ghost use Rattle.codec_duplex.specs.declared.position.Position.{Position as ThePosition};
 
-use crate::bases::combine_bases;
+use crate::counts::CountUnit;
 use crate::position::{Position, combine};
+use crate::strand::{Strand, StrandMut};
 
-// Eight lengths, n the first, are equal and at most 2,048, and four results have room for them.
-pub fn columns_fit(
-    n: usize,
-    aq: usize,
-    ad: usize,
-    ae: usize,
-    bb: usize,
-    bq: usize,
-    bd: usize,
-    be: usize,
-    bases: usize,
-    quals: usize,
-    depths: usize,
-    errors: usize,
-) -> bool
-    ensures { result ≡ columns_fit (n ∷ aq ∷ ad ∷ ae ∷ bb ∷ bq ∷ bd ∷ be ∷ []) (bases ∷ quals ∷ depths ∷ errors ∷ []) }
+// No unit of depths or errors is left over, and each column's length is right.
+fn each_length<U: CountUnit, F: Fn(usize) -> bool>(s: &Strand<'_, U>, is_right: F) -> bool
+    requires { F.IsAlwaysCallable is_right }
+    ensures { (test : ℕ → Bool) → ((n : ℕ) (r : Bool) → F.post is_right n r → r ≡ test n) → result ≡ each_length U.coding test (kept_of s.now) }
 {
-    let a_equal = (n == aq) & (n == ad) & (n == ae);
-    let b_equal = (n == bb) & (n == bq) & (n == bd) & (n == be);
-    let room = (n <= bases) & (n <= quals) & (n <= depths) & (n <= errors);
-    a_equal & b_equal & (n <= 2048) & room
+    let (Some(depths), Some(errors)) = (U::count(s.depths), U::count(s.errors)) else {
+        return false;
+    };
+    is_right(s.bases.len()) && is_right(s.quals.len()) && is_right(depths) && is_right(errors)
 }
 
-fn position_at(bases: &[u8], quals: &[u8], depths: &[u16], errors: &[u16], i: usize) -> Position
-    requires { (i < length bases.now) × (i < length quals.now) × (i < length depths.now) × (i < length errors.now) }
-    ensures { result ≡ position_at (strand bases.now quals.now depths.now errors.now) i }
+// The columns are equally long, up to 2,048, and no result is shorter.
+#[tactic(auto, unfolding(crate::specs::Kept::columns_fit))]
+pub fn columns_fit<U: CountUnit>(a: &Strand<'_, U>, b: &Strand<'_, U>, out: &Strand<'_, U>) -> bool
+    ensures { result ≡ columns_fit U.coding (kept_of a.now) (kept_of b.now) (kept_of out.now) }
+{
+    let n = a.len();
+    let are_equal = each_length(a, |m| n == m) & each_length(b, |m| n == m);
+    let have_room = (n <= 2048) & each_length(out, |m| n <= m);
+    are_equal & have_room
+}
+
+fn position_at<U: CountUnit>(s: &Strand<'_, U>, i: usize) -> Position
+    requires { (i < length s.now.bases.now) × HasLength (length s.now.bases.now) (held U.coding s.now) }
+    ensures { result ≡ position_at (held U.coding s.now) i }
 {
     Position {
-        base: bases[i],
-        quality: quals[i],
-        depth: depths[i],
-        error: errors[i],
+        base: s.bases[i],
+        quality: s.quals[i],
+        depth: U::read(s.depths, i),
+        error: U::read(s.errors, i),
+    }
+}
+
+// Apart from the depths and errors, so that the compiler takes sixteen positions at once.
+fn combine_bases<U: CountUnit>(
+    a: &Strand<'_, U>,
+    b: &Strand<'_, U>,
+    bases: &mut [u8],
+    quals: &mut [u8],
+)
+    requires first { HasLength (length a.now.bases.now) (held U.coding a.now) }
+    requires second { HasLength (length a.now.bases.now) (held U.coding b.now) }
+    requires room { (length a.now.bases.now ≤ length bases.old) × (length a.now.bases.now ≤ length quals.old) }
+    ensures bases { bases.new ≡ written (combined_column ThePosition.base (held U.coding a.now) (held U.coding b.now)) bases.old }
+    ensures quals { quals.new ≡ written (combined_column ThePosition.quality (held U.coding a.now) (held U.coding b.now)) quals.old }
+{
+    for i in 0..a.len() {
+        let Position { base, quality, .. } = combine(position_at(a, i), position_at(b, i));
+        bases[i] = base;
+        quals[i] = quality;
+    }
+}
+
+fn combine_counts<U: CountUnit>(
+    a: &Strand<'_, U>,
+    b: &Strand<'_, U>,
+    depths: &mut [U],
+    errors: &mut [U],
+)
+    requires first { HasLength (length a.now.bases.now) (held U.coding a.now) }
+    requires second { HasLength (length a.now.bases.now) (held U.coding b.now) }
+    requires room { (length a.now.bases.now ≤ length (U.coding.counts depths.old)) × (length a.now.bases.now ≤ length (U.coding.counts errors.old)) }
+    ensures depths { depths.new ≡ written (U.coding.units (combined_column ThePosition.depth (held U.coding a.now) (held U.coding b.now))) depths.old }
+    ensures errors { errors.new ≡ written (U.coding.units (combined_column ThePosition.error (held U.coding a.now) (held U.coding b.now))) errors.old }
+{
+    for i in 0..a.len() {
+        let Position { depth, error, .. } = combine(position_at(a, i), position_at(b, i));
+        U::write(depths, i, depth);
+        U::write(errors, i, error);
     }
 }
 
 // Writes the duplex into the first places of the four results.
-pub fn combine_columns(
-    a_bases: &[u8],
-    a_quals: &[u8],
-    a_depths: &[u16],
-    a_errors: &[u16],
-    b_bases: &[u8],
-    b_quals: &[u8],
-    b_depths: &[u16],
-    b_errors: &[u16],
-    bases: &mut [u8],
-    quals: &mut [u8],
-    depths: &mut [u16],
-    errors: &mut [u16],
+pub fn combine_columns<U: CountUnit>(
+    a: &Strand<'_, U>,
+    b: &Strand<'_, U>,
+    out: &mut StrandMut<'_, U>,
 )
-    requires { Fitting (strand a_bases.now a_quals.now a_depths.now a_errors.now) (strand b_bases.now b_quals.now b_depths.now b_errors.now) (duplex bases.old quals.old depths.old errors.old) }
-    ensures { Filled
-        (strand a_bases.now a_quals.now a_depths.now a_errors.now)
-        (strand b_bases.now b_quals.now b_depths.now b_errors.now)
-        (duplex bases.old quals.old depths.old errors.old)
-        (duplex bases.new quals.new depths.new errors.new) }
+    requires { Fitting (held U.coding a.now) (held U.coding b.now) (held_in U.coding out.old) }
+    ensures filled { Filled U.coding (held U.coding a.now) (held U.coding b.now) (kept_in out.old) (kept_in out.new) }
+    ensures same { SameLoans out.old out.new }
 {
-    combine_bases(a_bases, a_quals, b_bases, b_quals, bases, quals);
-    let mut i = 0;
-    while i < a_bases.len() {
-        let a = position_at(a_bases, a_quals, a_depths, a_errors, i);
-        let b = position_at(b_bases, b_quals, b_depths, b_errors, i);
-        let p = combine(a, b);
-        depths[i] = p.depth;
-        errors[i] = p.error;
-        i += 1;
-    }
+    combine_bases(a, b, out.bases, out.quals);
+    combine_counts(a, b, out.depths, out.errors);
 }

@@ -1,60 +1,45 @@
 // Combining alone: whole columns, with the limits.
-ghost use Rattle.codec_duplex.specs.Columns.{strand};
+ghost use Rattle.std.specs.Prelude.{◌≡◌};
 ghost use Rattle.codec_duplex.specs.Combining.{Combining};
-ghost use Rattle.codec_duplex.specs.Duplex.{duplex};
+ghost use Rattle.codec_duplex.specs.Lent.{kept_of, kept_in, SameLoans};
+ghost use Rattle.codec_duplex.specs.declared.combining.CombineError.TheVariants.{Disagreeing};
 
 use crate::columns::{columns_fit, combine_columns};
-use crate::limits::{DuplexAnswer, is_duplex, judge};
-use crate::tally::tally;
+use crate::counts::CountUnit;
+use crate::limits::{Disagreement, Limits};
+use crate::strand::{Strand, StrandMut};
+use crate::tally::{DuplexBaseTally, tally};
+
+// Why there is no duplex.
+#[derive(Clone, Copy, Debug, PartialEq)]
+pub enum CombineError {
+    Disagreeing(Disagreement),
+    ColumnsUnequal,
+}
+
+impl From<Disagreement> for CombineError {
+    ghost from_gives = { λ disagreement error. error ≡ Disagreeing disagreement };
+
+    fn from(disagreement: Disagreement) -> Self {
+        CombineError::Disagreeing(disagreement)
+    }
+}
 
 // The tallies and limits come first, so that a rejected pair touches no column.
-pub fn build_duplex_consensus_from_padded(
-    a_bases: &[u8],
-    a_quals: &[u8],
-    a_depths: &[u16],
-    a_errors: &[u16],
-    b_bases: &[u8],
-    b_quals: &[u8],
-    b_depths: &[u16],
-    b_errors: &[u16],
-    max_disagreements: u64,
-    max_rate: f64,
-    bases: &mut [u8],
-    quals: &mut [u8],
-    depths: &mut [u16],
-    errors: &mut [u16],
-) -> DuplexAnswer
-    ensures { Combining
-        (strand a_bases.now a_quals.now a_depths.now a_errors.now)
-        (strand b_bases.now b_quals.now b_depths.now b_errors.now)
-        max_disagreements max_rate result
-        (duplex bases.old quals.old depths.old errors.old)
-        (duplex bases.new quals.new depths.new errors.new) }
+#[tactic(auto, unfolding(crate::specs::Combining::outcome, crate::specs::Kept::columns_fit))]
+pub fn build_duplex_consensus_from_padded<U: CountUnit>(
+    a: &Strand<'_, U>,
+    b: &Strand<'_, U>,
+    limits: Limits,
+    out: &mut StrandMut<'_, U>,
+) -> Result<DuplexBaseTally, CombineError>
+    ensures combining { Combining U.coding (kept_of a.now) (kept_of b.now) limits.max_disagreements limits.max_rate result (kept_in out.old) (kept_in out.new) }
+    ensures same { SameLoans out.old out.new }
 {
-    let fit = columns_fit(
-        a_bases.len(),
-        a_quals.len(),
-        a_depths.len(),
-        a_errors.len(),
-        b_bases.len(),
-        b_quals.len(),
-        b_depths.len(),
-        b_errors.len(),
-        bases.len(),
-        quals.len(),
-        depths.len(),
-        errors.len(),
-    );
-    if !fit {
-        return DuplexAnswer::Refused;
+    if !columns_fit(a, b, &out.as_strand()) {
+        return Err(CombineError::ColumnsUnequal);
     }
-    let answer = judge(tally(a_bases, b_bases), max_disagreements, max_rate);
-    if is_duplex(answer) {
-        combine_columns(
-            a_bases, a_quals, a_depths, a_errors, b_bases, b_quals, b_depths, b_errors, bases,
-            quals, depths, errors,
-        );
-        return answer;
-    }
-    answer
+    let tally = limits.judge(tally(a.bases, b.bases))?;
+    combine_columns(a, b, out);
+    Ok(tally)
 }

@@ -1,9 +1,11 @@
 // The combining step: one position, the tallies and limits of a pair of strands, whole columns.
 #![tactic(auto)]
 
-pub mod bases;
+pub mod answer;
 pub mod columns;
 pub mod combining;
+pub mod counts;
 pub mod limits;
 pub mod position;
+pub mod strand;
 pub mod tally;

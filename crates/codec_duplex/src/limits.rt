@@ -1,48 +1,45 @@
 // Which duplexes disagree too much.
 ghost use Rattle.std.specs.Prelude.{◌≡◌};
-ghost use Rattle.codec_duplex.specs.Limits.{judgement_of, is_duplex, rate_of, judged};
+ghost use Rattle.codec_duplex.specs.Limits.{rate_of, judged};
 
 use crate::tally::DuplexBaseTally;
 
-// What combining alone answers: both tallies, which limit rejected with its figure, or that the columns do not fit.
-#[derive(Clone, Copy)]
-pub enum DuplexAnswer {
-    Duplex(DuplexBaseTally),
-    DisagreementCount(u32),
-    DisagreementRate(f64),
-    Refused,
+// How many disagreements a duplex may have, and how many of its positions, at most.
+#[derive(Clone, Copy, Debug, PartialEq)]
+pub struct Limits {
+    pub max_disagreements: u64,
+    pub max_rate: f64,
 }
 
-pub fn is_duplex(answer: DuplexAnswer) -> bool
-    ensures { result ≡ is_duplex (judgement_of answer) }
-{
-    match answer {
-        DuplexAnswer::Duplex(_) => true,
-        DuplexAnswer::DisagreementCount(_) => false,
-        DuplexAnswer::DisagreementRate(_) => false,
-        DuplexAnswer::Refused => false,
-    }
+// Which limit rejected a duplex, with its figure.
+#[derive(Clone, Copy, Debug, PartialEq)]
+pub enum Disagreement {
+    Count(u32),
+    Rate(f64),
 }
 
 fn disagreement_rate(tally: DuplexBaseTally) -> f64
     ensures { result ≡ rate_of tally }
 {
-    (tally.disagreements as f64) / (tally.bases as f64)
+    f64::from(tally.disagreements) / f64::from(tally.bases)
 }
 
-// Without a position that both strands call nothing is rejected; a rate limit that is NaN rejects nothing either.
-pub fn judge(tally: DuplexBaseTally, max_disagreements: u64, max_rate: f64) -> DuplexAnswer
-    ensures { judgement_of result ≡ judged tally max_disagreements max_rate }
-{
-    if tally.bases == 0 {
-        return DuplexAnswer::Duplex(tally);
+impl Limits {
+    // Without a position that both strands call nothing is rejected; a rate limit that is NaN rejects nothing either.
+    #[tactic(auto, unfolding(crate::specs::Limits::judged))]
+    pub fn judge(self, tally: DuplexBaseTally) -> Result<DuplexBaseTally, Disagreement>
+        ensures { result ≡ judged tally self.max_disagreements self.max_rate }
+    {
+        if tally.bases == 0 {
+            return Ok(tally);
+        }
+        if self.max_disagreements < u64::from(tally.disagreements) {
+            return Err(Disagreement::Count(tally.disagreements));
+        }
+        let rate = disagreement_rate(tally);
+        if rate > self.max_rate {
+            return Err(Disagreement::Rate(rate));
+        }
+        Ok(tally)
     }
-    if max_disagreements < (tally.disagreements as u64) {
-        return DuplexAnswer::DisagreementCount(tally.disagreements);
-    }
-    let rate = disagreement_rate(tally);
-    if rate > max_rate {
-        return DuplexAnswer::DisagreementRate(rate);
-    }
-    DuplexAnswer::Duplex(tally)
 }

@@ -8,13 +8,13 @@ use borrow.Author.Tests.{eqb-true, eqb-false, leb-true, leb-false}
 use lib.Count.{ones}
 use lib.Dec.{eqb, leb}
 use lib.ListN.{length, get_or, take}
+use Rattle.std.specs.Prelude.{Ok}
 use Rattle.std.proofs.lemmas.Bool.{cond_both}
 use Rattle.lists.specs.Tabulate.{tabulate}
 use Rattle.lists.specs.Total.{total}
 use Rattle.lists.specs.Written.{written}
 use Rattle.lists.proofs.Tabulate.{length-tabulate, get_d_tabulate}
 use Rattle.caller.specs.Reasons.{number_of}
-use Rattle.caller.specs.Refusals.{is_refusal}
 use Rattle.caller.specs.declared.reason.RejectionReason.TheVariants.{Downsampled}
 use Rattle.codec_duplex.specs.declared.tally.DuplexBaseTally.{DuplexBaseTally}
 use Rattle.codec_framing.specs.Framing.{tally_of}
@@ -25,7 +25,7 @@ use Rattle.codec_rejects.proofs.Counting.{with_fate_few, rejections_few, rejecti
 use Rattle.codec_rejects.proofs.Marking.{marked_ones}
 use Rattle.codec_stats.specs.Ledger.{counter, filtered, too_large, Addable}
 use Rattle.codec_stats.specs.declared.ledger.Ledger.{Ledger}
-use Rattle.codec_family.specs.Call.{Call}
+use Rattle.codec_family.specs.Call.{Call, columns_of}
 use Rattle.codec_family.specs.Counted.{ended_by_disagreement, counted_by, counted}
 use Rattle.codec_family.specs.Ending.{is_called, frame, tally, ending}
 use Rattle.codec_family.specs.Fates.{fates, Fated}
@@ -90,7 +90,7 @@ pub record Few (l : Ledger) : Type 0 where
   pub duplex_bases : l.duplex_bases ≤ 2047
   pub disagreements : l.disagreements ≤ 2047
 
-module _ (c : Call) (none : is_refusal (of_records c) ≡ false) (fated : Fated c) where
+module _ (c : Call) (none : of_records c ≡ Ok tt) (fated : Fated c) where
   few_with : (fate : ℕ) → with_fate fate (fates c) ≤ 512
   few_with fate = omega (arith, with_fate_few fate (fates c), fated.one_each, few_records c none)
 
@@ -101,7 +101,9 @@ module _ (c : Call) (none : is_refusal (of_records c) ≡ false) (fated : Fated 
   pub counted_few : Few (counted c)
   unfolding counted counted_by
   counted_few =
-      let within : is_called (ending c) ≡ true → (tally_of (frame c) c.r1.bases c.r2.bases).bases ≤ (frame c).length = λ e. tally_of-within (frame c) c.r1.bases c.r2.bases (called_fits c e).r1_fits in
+      let first = (columns_of c.r1).bases in
+      let second = (columns_of c.r2).bases in
+      let within : is_called (ending c) ≡ true → (tally_of (frame c) first second).bases ≤ (frame c).length = λ e. tally_of-within (frame c) first second (called_fits c e).r1_fits in
       record {
         families = refl;
         records = few_records c none;
@@ -112,8 +114,8 @@ module _ (c : Call) (none : is_refusal (of_records c) ≡ false) (fated : Fated 
         rejected = one_or-none (ended_by_disagreement (ending c));
         duplexes = one_or-none (is_called (ending c));
         bases = called_short c none;
-        duplex_bases = few_called (tally_of (frame c) c.r1.bases c.r2.bases).bases within;
-        disagreements = few_called (tally_of (frame c) c.r1.bases c.r2.bases).disagreements (λ e. omega (arith, within e, tally_of_disagreements (frame c) c.r1.bases c.r2.bases));
+        duplex_bases = few_called (tally_of (frame c) first second).bases within;
+        disagreements = few_called (tally_of (frame c) first second).disagreements (λ e. omega (arith, within e, tally_of_disagreements (frame c) first second));
       }
 
 -- so it can be added to a ledger that is not refused

@@ -4,4 +4,3 @@ pub mod Counting
 pub mod Refusing
 pub mod Selected
 pub mod Settled
-pub mod Told

@@ -1,6 +1,7 @@
 -- The paper's cases of a family's ending as numbers.
-use Rattle.std.specs.Prelude.{Bool, ◌&&◌, ◌≡◌, ℕ, eqb}
+use Rattle.std.specs.Prelude.{Bool, ◌&&◌, ℕ, eqb}
 use Rattle.caller.specs.Reasons.{number_of}
+use Rattle.caller.specs.Refusals as refusals
 use Rattle.caller.specs.declared.reason.RejectionReason.TheVariants.{HighDuplexDisagreement}
 use Rattle.codec_family.specs.declared.answer.Answer.{Answer}
 use Rattle.codec_family.specs.declared.answer.FamilyAnswer.{FamilyAnswer}
@@ -30,14 +31,10 @@ reported Empty = record { kind = empty_number; number = 0; with = 0; length = 0 
 reported NoStrand = record { kind = no_strand_number; number = 0; with = 0; length = 0 }
 reported (Rejected reason) = record { kind = rejected_number; number = number_of reason; with = 0; length = 0 }
 reported (Disagreeing limit) = record { kind = rejected_number; number = number_of HighDuplexDisagreement; with = 0; length = 0 }
-reported (Refused number given) = record { kind = refused_number; number = number; with = given; length = 0 }
+reported (Refused refusal) = record { kind = refused_number; number = refusals.number_of refusal; with = refusals.given_of refusal; length = 0 }
 
 abbrev pub reported_answer : Answer → FamilyAnswer
 reported_answer a = record { ending = reported a.ending; listed = a.listed; ledger = a.ledger }
-
--- an ending is told, in the numbers that stand for it
-abbrev pub TellsEnding : FamilyEnding → Type 0
-TellsEnding told = (ending : Ending) × (reported ending ≡ told)
 
 -- what an answer says
 abbrev pub says_refused : FamilyEnding → Bool

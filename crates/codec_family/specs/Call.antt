@@ -1,6 +1,7 @@
 -- Document 01, 'A family' and 'The answers': what a family call is given, and what is lent to it.
-use Rattle.std.specs.Prelude.{Bool, List, ℕ, length}
-use Rattle.codec_duplex.specs.Columns.{Strand}
+use Rattle.std.specs.Prelude.{Bool, List, [], ℕ, length, Option, unwrap_or}
+use Rattle.std.specs.Bool.{then_some}
+use Rattle.codec_duplex.specs.Columns.{Strand, strand}
 use Rattle.codec_duplex.specs.Duplex.{Duplex}
 use Rattle.codec_records.specs.declared.options.Options.{Options}
 use Rattle.codec_records.specs.declared.records.Record.{Record}
@@ -34,15 +35,17 @@ room_of lent =
       marks = length lent.marks;
     }
 
--- every argument of a family call but the ledger: 'all else is given anew at each'; 'A strand may be absent'
+-- 'A strand may be absent': its columns are then none
+abbrev pub columns_of : Option Strand → Strand
+columns_of s = unwrap_or s (strand [] [] [] [])
+
+-- every argument of a family call but the ledger: 'all else is given anew at each'
 pub record Call : Type 0 where
   pub records : List Record
   pub ops : List ℕ
   pub options : Options
-  pub has_r1 : Bool
-  pub r1 : Strand
-  pub has_r2 : Bool
-  pub r2 : Strand
+  pub r1 : Option Strand
+  pub r2 : Option Strand
   pub room : Room
 
 -- what is lent, and the arguments, as a function has them
@@ -52,4 +55,4 @@ lent_of duplex r1 r2 listed_records listed_reasons marks =
 
 abbrev pub call_of : List Record → (ops : List ℕ) → Options → (has_r1 : Bool) → Strand → (has_r2 : Bool) → Strand → Lent → Call
 call_of records ops options has_r1 r1 has_r2 r2 lent =
-    record { records = records; ops = ops; options = options; has_r1 = has_r1; r1 = r1; has_r2 = has_r2; r2 = r2; room = room_of lent }
+    record { records = records; ops = ops; options = options; r1 = then_some has_r1 r1; r2 = then_some has_r2 r2; room = room_of lent }

@@ -1,9 +1,8 @@
 -- Document 01, 'Demand 3': what a call that is not refused counts, by its fates, its ending and step 7's length.
-use Rattle.std.specs.Prelude.{Bool, cond, List, ℕ, suc, eqb, length}
+use Rattle.std.specs.Prelude.{Bool, cond, List, ℕ, suc, eqb, length, is_err}
 use Rattle.lists.specs.Tabulate.{tabulate}
 use Rattle.caller.specs.Fates.{passed_over_number, no_strand_number, used_number}
 use Rattle.caller.specs.Reasons.{number_of}
-use Rattle.caller.specs.Refusals.{is_refusal}
 use Rattle.caller.specs.declared.reason.RejectionReason.TheVariants.{HighDuplexDisagreement}
 use Rattle.codec_rejects.specs.Fates.{with_fate}
 use Rattle.codec_stats.specs.Ledger.{Counts, plus}
@@ -40,4 +39,4 @@ counted c = counted_by (length c.records) (fates c) (ending c) (tally c)
 
 -- 'A call that must be refused, 10 and 11 read on the history's counts, changes none; any other adds what demand 3 counts'
 unfoldable pub after_call : Call → Counts → Counts
-after_call c counts = cond (is_refusal (refusal c counts)) counts (plus counts (counted c))
+after_call c counts = cond (is_err (refusal c counts)) counts (plus counts (counted c))

@@ -1,9 +1,7 @@
 -- Document 01, 'A family' and 'The answers': all that a family call promises.
-use Rattle.std.specs.Prelude.{cond, List, [], ◌≡◌, ℕ, length}
+use Rattle.std.specs.Prelude.{cond, List, [], ◌≡◌, ℕ, length, Result, Ok, Err, is_err}
 use Rattle.lists.specs.Written.{written}
-use Rattle.caller.specs.Refusals.{is_refusal}
 use Rattle.caller.specs.declared.refusal.Refusal.{Refusal}
-use Rattle.caller.specs.declared.refusal.Refusal.TheVariants.{NoRefusal, Refused}
 use Rattle.codec_rejects.specs.Handover.{mark_words, handover, listed_records, listed_reasons}
 use Rattle.codec_stats.specs.declared.ledger.Ledger.{Ledger}
 use Rattle.codec_family.specs.Answer.{reported}
@@ -12,37 +10,38 @@ use Rattle.codec_family.specs.Counted.{after_call}
 use Rattle.codec_family.specs.Ending.{is_called, ending, duplex_of, strand_r1, strand_r2}
 use Rattle.codec_family.specs.Fates.{fates}
 use Rattle.codec_family.specs.Refusals.{refusal}
+use Rattle.codec_family.specs.declared.answer.Answer.{Answer}
 use Rattle.codec_family.specs.declared.answer.FamilyAnswer.{FamilyAnswer}
 use Rattle.codec_family.specs.declared.ending.Ending.{Ending}
 use Rattle.codec_family.specs.declared.ending.Ending.TheVariants as endings
 
 -- a refusal comes before all steps
-abbrev pub unless_refused : Refusal → Ending → Ending
-unless_refused NoRefusal e = e
-unless_refused (Refused number given) e = endings.Refused number given
+abbrev pub unless_refused : Result Unit Refusal → Ending → Ending
+unless_refused (Ok done) e = e
+unless_refused (Err refusal) e = endings.Refused refusal
 
 -- how the call ends, its refusal given
-unfoldable pub ending_with : Call → Refusal → Ending
+unfoldable pub ending_with : Call → Result Unit Refusal → Ending
 ending_with c r = unless_refused r (ending c)
 
 -- the fates of a call's records, none where it is refused
-unfoldable pub fates_with : Call → Refusal → List ℕ
-fates_with c r = cond (is_refusal r) [] (fates c)
+unfoldable pub fates_with : Call → Result Unit Refusal → List ℕ
+fates_with c r = cond (is_err r) [] (fates c)
 
 -- the answer of a refusal: no list, and the ledger that was handed over
-abbrev pub refused_answer : Ledger → (number given : ℕ) → FamilyAnswer
-refused_answer ledger number given = record { ending = reported (endings.Refused number given); listed = 0; ledger = ledger }
+abbrev pub refused_answer : Ledger → Refusal → Answer
+refused_answer ledger refusal = record { ending = endings.Refused refusal; listed = 0; ledger = ledger }
 
 -- 'Marks are … written whole'; 'A refusal leaves everything as it was'
-unfoldable pub marks_after : Call → Refusal → List ℕ → List ℕ
-marks_after c r old = cond (is_refusal r) old (written (mark_words (fates c)) old)
+unfoldable pub marks_after : Call → Result Unit Refusal → List ℕ → List ℕ
+marks_after c r old = cond (is_err r) old (written (mark_words (fates c)) old)
 
 -- 'Duplex and both strands fill the first positions of four columns each; … a family not called touches none of these twelve'
-unfoldable pub column_after : Call → Refusal → (result old : List ℕ) → List ℕ
+unfoldable pub column_after : Call → Result Unit Refusal → (result old : List ℕ) → List ℕ
 column_after c r result old = cond (is_called (ending_with c r)) (written result old) old
 
 -- all but the ledger, the call's refusal given: the ending, the marks, the list's length and its two columns, and the twelve columns
-pub record Results (c : Call) (r : Refusal) (before : Lent) (answer : FamilyAnswer) (after : Lent) : Type 0 where
+pub record Results (c : Call) (r : Result Unit Refusal) (before : Lent) (answer : FamilyAnswer) (after : Lent) : Type 0 where
   pub ended : answer.ending ≡ reported (ending_with c r)
   pub marks : after.marks ≡ marks_after c r before.marks
   -- 'It fills the first places of two columns, record and reason'; 'what lies beyond, in list and marks too, is untouched'

@@ -16,7 +16,7 @@ fate_by Empty = undecided_number
 fate_by NoStrand = no_strand_number
 fate_by (Rejected reason) = number_of reason
 fate_by (Disagreeing limit) = number_of HighDuplexDisagreement
-fate_by (Refused number given) = undecided_number
+fate_by (Refused refusal) = undecided_number
 
 -- the fate of each record: it 'falls on every record that has none yet'
 unfoldable pub fates : Call → List ℕ

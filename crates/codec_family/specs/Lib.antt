@@ -4,4 +4,5 @@ pub mod Counted
 pub mod Ending
 pub mod FamilyCalled
 pub mod Fates
+pub mod Lent
 pub mod Refusals

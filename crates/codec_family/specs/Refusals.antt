@@ -1,9 +1,11 @@
 -- Document 01, the table of refusals: 1 to 11 of a family call. 'Lowest number first, then lowest record or strand'.
-use Rattle.std.specs.Prelude.{Bool, not, ◌&&◌, ◌||◌, List, [], ◌∷◌, ℕ, eqb, leb, ltb, length}
+use Rattle.std.specs.Prelude.{Bool, false, not, ◌&&◌, ◌||◌, [], ◌∷◌, ℕ, eqb, leb, ltb, length, Option, Some, None, Result, Ok, Err, cond}
 use Rattle.std.specs.List.{list_all}
-use Rattle.caller.specs.Refusals.{or_else, refused_if}
+use Rattle.std.specs.Result.{result_and}
 use Rattle.caller.specs.declared.refusal.Refusal.{Refusal}
-use Rattle.caller.specs.declared.refusal.Refusal.TheVariants as refusals
+use Rattle.caller.specs.declared.refusal.ReadType.TheVariants.{R1, R2}
+use Rattle.caller.specs.declared.refusal.Refusal.TheVariants.{BadColumns, BadBase, TooNarrow}
+use Rattle.codec_duplex.specs.Columns.{Strand}
 use Rattle.codec_select.specs.Alignments.{alignments_of}
 use Rattle.codec_records.specs.Records.{column}
 use Rattle.codec_select.specs.Steps.{refusal_of, fates_of}
@@ -11,43 +13,49 @@ use Rattle.codec_records.specs.declared.records.Record.{Record}
 use Rattle.codec_select.specs.declared.selection.Decision.{Decision}
 use Rattle.codec_select.specs.declared.selection.Decision.TheVariants as decisions
 use Rattle.codec_stats.specs.Ledger.{Counts, of_counts}
-use Rattle.codec_family.specs.Call.{Call, widths_of}
+use Rattle.codec_family.specs.Call.{Call}
 use Rattle.codec_family.specs.declared.room.Room.{Room}
 use Rattle.codec_family.specs.declared.room.Widths.{Widths}
 
 -- 1 to 6, of the records
-unfoldable pub of_records : Call → Refusal
+unfoldable pub of_records : Call → Result Unit Refusal
 of_records c =
     refusal_of c.options (length c.records)
     (fates_of (column Record.flags c.records) (column Record.name c.records) (column Record.verdict c.records))
     (alignments_of c.records c.ops)
 
 -- selection answers the same refusal
-abbrev pub refusal_in : Decision → Refusal
-refusal_in (decisions.Kept start end length r1 r2) = refusals.NoRefusal
-refusal_in decisions.Empty = refusals.NoRefusal
-refusal_in (decisions.Rejected reason) = refusals.NoRefusal
-refusal_in (decisions.Refused number given) = refusals.Refused number given
+abbrev pub refusal_in : Decision → Result Unit Refusal
+refusal_in (decisions.Kept start end length r1 r2) = Ok tt
+refusal_in decisions.Empty = Ok tt
+refusal_in (decisions.Rejected reason) = Ok tt
+refusal_in (decisions.Refused refusal) = Err refusal
 
 -- 7: 'strand columns of unequal length or above 1,024'
-unfoldable pub bad_columns : Widths → Bool
-bad_columns w = not (list_all (eqb w.bases) (w.quals ∷ w.depths ∷ w.errors ∷ [])) || ltb 1024 w.bases
+unfoldable pub bad_columns : Strand → Bool
+bad_columns s =
+    not (list_all (eqb (length s.bases)) (length s.quals ∷ length s.depths ∷ length s.errors ∷ [])) || ltb 1024 (length s.bases)
 
 -- A C G T N n
 abbrev pub is_base : ℕ → Bool
 is_base base = eqb base 65 || eqb base 67 || eqb base 71 || eqb base 84 || eqb base 78 || eqb base 110
 
 -- 8: 'strand base not A C G T N n'
-unfoldable pub bad_bases : List ℕ → Bool
-bad_bases bases = not (list_all is_base bases)
+unfoldable pub bad_bases : Strand → Bool
+bad_bases s = not (list_all is_base s.bases)
 
--- 7, then 8: 'with it 0 (R1) or 1'; the columns of an absent strand are 'unread'
-unfoldable pub of_strands : (has_r1 : Bool) → Widths → List ℕ → (has_r2 : Bool) → Widths → List ℕ → Refusal
-of_strands has_r1 r1 r1_bases has_r2 r2 r2_bases =
-    or_else (refused_if (has_r1 && bad_columns r1) 7 0)
-    (or_else (refused_if (has_r2 && bad_columns r2) 7 1)
-    (or_else (refused_if (has_r1 && bad_bases r1_bases) 8 0)
-    (refused_if (has_r2 && bad_bases r2_bases) 8 1)))
+-- the columns of an absent strand are 'unread'
+abbrev pub in_strand : (bad : Strand → Bool) → Option Strand → Bool
+in_strand bad None = false
+in_strand bad (Some s) = bad s
+
+-- 7, then 8
+unfoldable pub of_strands : (r1 r2 : Option Strand) → Result Unit Refusal
+of_strands r1 r2 =
+    cond (in_strand bad_columns r1) (Err (BadColumns R1))
+    (cond (in_strand bad_columns r2) (Err (BadColumns R2))
+    (cond (in_strand bad_bases r1) (Err (BadBase R1))
+    (cond (in_strand bad_bases r2) (Err (BadBase R2)) (Ok tt))))
 
 -- four columns of at least 2,048 places
 abbrev pub is_wide : Widths → Bool
@@ -61,13 +69,16 @@ too_narrow room =
     || ltb room.listed_reasons 512
     || ltb room.marks 8
 
+abbrev pub of_room : Room → Result Unit Refusal
+of_room room = cond (too_narrow room) (Err TooNarrow) (Ok tt)
+
 -- 1 to 9, of all but the ledger
-unfoldable pub of_call : Call → Refusal
+unfoldable pub of_call : Call → Result Unit Refusal
 of_call c =
-    or_else (of_records c)
-    (or_else (of_strands c.has_r1 (widths_of c.r1) c.r1.bases c.has_r2 (widths_of c.r2) c.r2.bases)
-    (refused_if (too_narrow c.room) 9 0))
+    result_and (of_records c)
+    (result_and (of_strands c.r1 c.r2)
+    (of_room c.room))
 
 -- the refusal of a call, or none
-unfoldable pub refusal : Call → Counts → Refusal
-refusal c counts = or_else (of_call c) (of_counts counts)
+unfoldable pub refusal : Call → Counts → Result Unit Refusal
+refusal c counts = result_and (of_call c) (of_counts counts)

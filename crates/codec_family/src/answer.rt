@@ -1,6 +1,6 @@
 // What a family call answers, as numbers: an enum cannot cross the boundary.
 ghost use Rattle.std.specs.Prelude.{◌≡◌};
-ghost use Rattle.codec_family.specs.Answer.{reported, reported_answer, TellsEnding};
+ghost use Rattle.codec_family.specs.Answer.{reported, reported_answer};
 
 use crate::ending::Ending;
 use caller::reason::RejectionReason;
@@ -44,63 +44,53 @@ pub struct Answer {
     pub ledger: Ledger,
 }
 
-fn without_duplex(kind: u32, number: u32, with: u64) -> FamilyEnding
-    ensures { result ≡ record { kind = kind; number = number; with = with; length = 0 } }
-{
-    FamilyEnding {
-        kind,
-        number,
-        with,
-        length: 0,
-    }
-}
+impl From<Ending> for FamilyEnding {
+    ghost from_gives = { λ ending told. told ≡ reported ending };
 
-pub fn report(ending: Ending) -> FamilyEnding
-    ensures { result ≡ reported ending }
-{
-    match ending {
-        Ending::Called(length) => FamilyEnding {
-            kind: 0,
-            number: 0,
-            with: 0,
-            length,
-        },
-        Ending::Empty => without_duplex(1, 0, 0),
-        Ending::NoStrand => without_duplex(2, 0, 0),
-        Ending::Rejected(reason) => without_duplex(3, u32::from(u8::from(reason)), 0),
-        Ending::Disagreeing(_) => without_duplex(3, 10, 0),
-        Ending::Refused(number, given) => without_duplex(4, number, given as u64),
-    }
-}
-
-impl FamilyEnding {
-    // The ending that is told.
-    pub fn ending(self) -> Ending
-        requires { TellsEnding self }
-        ensures { reported result ≡ self }
-    {
-        match self.kind {
-            0 => Ending::Called(self.length),
-            1 => Ending::Empty,
-            2 => Ending::NoStrand,
-            3 => {
-                let number = self.number as u8;
-                Ending::Rejected(RejectionReason::try_from(number).unwrap())
-            }
-            _ => Ending::Refused(self.number, self.with as usize),
+    fn from(ending: Ending) -> FamilyEnding {
+        let none = FamilyEnding::default();
+        match ending {
+            Ending::Called(length) => FamilyEnding {
+                kind: CALLED,
+                length,
+                ..none
+            },
+            Ending::Empty => FamilyEnding {
+                kind: EMPTY,
+                ..none
+            },
+            Ending::NoStrand => FamilyEnding {
+                kind: NO_STRAND,
+                ..none
+            },
+            Ending::Rejected(reason) => FamilyEnding {
+                kind: REJECTED,
+                number: u32::from(u8::from(reason)),
+                ..none
+            },
+            Ending::Disagreeing(_) => FamilyEnding {
+                kind: REJECTED,
+                number: u32::from(u8::from(RejectionReason::HighDuplexDisagreement)),
+                ..none
+            },
+            Ending::Refused(refusal) => FamilyEnding {
+                kind: REFUSED,
+                number: refusal.number(),
+                with: refusal.given() as u64,
+                ..none
+            },
         }
     }
 }
 
-impl FamilyAnswer {
-    pub fn answer(self) -> Answer
-        requires { TellsEnding self.ending }
-        ensures { reported_answer result ≡ self }
-    {
-        Answer {
-            ending: self.ending.ending(),
-            listed: self.listed as usize,
-            ledger: self.ledger,
+impl From<Answer> for FamilyAnswer {
+    ghost from_gives = { λ answer told. told ≡ reported_answer answer };
+
+    fn from(answer: Answer) -> FamilyAnswer {
+        FamilyAnswer {
+            ending: FamilyEnding::from(answer.ending),
+            listed: answer.listed as u64,
+            ledger: answer.ledger,
         }
     }
 }

@@ -1,5 +1,5 @@
 // What a call adds to the ledger.
-ghost use Rattle.std.specs.Prelude.{cond, ◌≡◌, suc, length, get_or};
+ghost use Rattle.std.specs.Prelude.{◌≡◌, suc, length, get_or};
 ghost use Rattle.lists.specs.Tabulate.{tabulate};
 ghost use Rattle.codec_rejects.specs.Fates.{AreFates};
 ghost use Rattle.codec_family.specs.Counted.{ended_by_disagreement, counted_by};
@@ -9,23 +9,14 @@ use crate::ending::{Ending, Verdict, fate_by, is_called};
 use caller::reason::RejectionReason;
 use codec_rejects::fates::count_fates;
 use codec_stats::ledger::Ledger;
-
-fn one_if(yes: bool) -> u64
-    ensures { result ≡ cond yes 1 0 }
-{
-    if yes { 1 } else { 0 }
-}
+use std::array;
 
 fn called_length(ending: Ending) -> u64
     ensures { result ≡ called_length ending }
 {
     match ending {
         Ending::Called(length) => length,
-        Ending::Empty => 0,
-        Ending::NoStrand => 0,
-        Ending::Rejected(_) => 0,
-        Ending::Disagreeing(_) => 0,
-        Ending::Refused(_, _) => 0,
+        _ => 0,
     }
 }
 
@@ -36,16 +27,15 @@ fn is_disagreeing(ending: Ending) -> bool
 }
 
 // The counts of the fates 1 to 10.
+#[tactic(auto, unfolding(lists::specs::Tabulate::tabulate))]
 fn reasons_of(counts: [u64; 14]) -> [u64; 10]
     ensures { result ≡ tabulate (λ i. get_or counts (suc i) 0) 10 }
 {
-    [
-        counts[1], counts[2], counts[3], counts[4], counts[5], counts[6], counts[7], counts[8],
-        counts[9], counts[10],
-    ]
+    array::from_fn(|i| counts[i + 1])
 }
 
 // By the fates and the ending, one call that is not refused.
+#[tactic(auto, unfolding(crate::specs::Counted::counted_by, lists::specs::Tabulate::tabulate))]
 pub fn counted(fates: &[u8], verdict: Verdict) -> Ledger
     requires { AreFates fates.now }
     ensures { result ≡ counted_by (length fates.now) fates.now verdict.ending verdict.tally }
@@ -60,10 +50,10 @@ pub fn counted(fates: &[u8], verdict: Verdict) -> Ledger
         passed_over: counts[11],
         no_strand: counts[12],
         used: counts[13],
-        disagreement_rejected: one_if(is_disagreeing(ending)),
-        duplexes: one_if(is_called(ending)),
+        disagreement_rejected: u64::from(is_disagreeing(ending)),
+        duplexes: u64::from(is_called(ending)),
         bases: called_length(ending),
-        duplex_bases: tally.bases as u64,
-        disagreements: tally.disagreements as u64,
+        duplex_bases: u64::from(tally.bases),
+        disagreements: u64::from(tally.disagreements),
     }
 }

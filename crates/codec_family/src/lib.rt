@@ -4,5 +4,7 @@
 pub mod answer;
 pub mod counted;
 pub mod ending;
+pub mod lent;
 pub mod refusal;
 pub mod room;
+pub mod strands;

@@ -1,41 +1,40 @@
 // Refusals 7 to 9, and the order of all eleven.
-ghost use Rattle.std.specs.Prelude.{◌&&◌, ◌≡◌};
-ghost use Rattle.caller.specs.Refusals.{or_else, refused_if};
+ghost use Rattle.std.specs.Prelude.{◌≡◌};
+ghost use Rattle.std.specs.Result.{result_and};
+ghost use Rattle.codec_duplex.specs.Lent.{strand_of};
 ghost use Rattle.codec_stats.specs.Ledger.{of_counts};
-ghost use Rattle.codec_family.specs.Refusals.{refusal_in, bad_columns, is_base, bad_bases, of_strands, is_wide, too_narrow};
+ghost use Rattle.codec_family.specs.Lent.{r1_of, r2_of};
+ghost use Rattle.codec_family.specs.Refusals.{refusal_in, bad_columns, is_base, bad_bases, of_strands, of_room};
 
-use crate::room::{Room, Widths};
-use caller::refusal::{Refusal, or_else, refused_if};
+use crate::room::Room;
+use crate::strands::Strands;
+use caller::refusal::{ReadType, Refusal};
+use codec_duplex::strand::Strand;
 use codec_select::selection::Decision;
 use codec_stats::ledger::Ledger;
-use codec_stats::refusals::ledger_refusal;
+use codec_stats::refusals::check;
 
 // Selection answers refusals 1 to 6.
-pub fn refusal_in(decision: Decision) -> Refusal
+pub fn refusal_in(decision: Decision) -> Result<(), Refusal>
     ensures { result ≡ refusal_in decision }
 {
     match decision {
-        Decision::Refused(number, given) => Refusal::Refused(number, given),
-        Decision::Kept {
-            start: _,
-            end: _,
-            length: _,
-            r1_is_negative: _,
-            r2_is_negative: _,
-        } => Refusal::NoRefusal,
-        Decision::Empty => Refusal::NoRefusal,
-        Decision::Rejected(_) => Refusal::NoRefusal,
+        Decision::Refused(refusal) => Err(refusal),
+        _ => Ok(()),
     }
 }
 
-fn has_bad_columns(strand: Widths) -> bool
-    ensures { result ≡ bad_columns strand }
+#[tactic(auto, unfolding(crate::specs::Refusals::bad_columns))]
+fn has_bad_columns(strand: &Strand<'_>) -> bool
+    ensures { result ≡ bad_columns (strand_of strand.now) }
 {
-    let n = strand.bases;
-    let equal = (n == strand.quals) & (n == strand.depths) & (n == strand.errors);
-    !equal | (1024 < n)
+    let n = strand.bases.len();
+    let quals = n == strand.quals.len();
+    let counts = (n == strand.depths.len()) & (n == strand.errors.len());
+    !(quals & counts) | (1024 < n)
 }
 
+// By `|` and no `match`, of which the compiler makes no vector code.
 fn is_base(base: u8) -> bool
     ensures { result ≡ is_base base }
 {
@@ -48,82 +47,54 @@ fn is_base(base: u8) -> bool
 }
 
 // All bases are asked, with no branch: a strand is seldom bad.
-fn has_bad_base(bases: &[u8]) -> bool
-    ensures { result ≡ bad_bases bases.now }
+#[tactic(auto, unfolding(crate::specs::Refusals::bad_bases))]
+fn has_bad_base(strand: &Strand<'_>) -> bool
+    ensures { result ≡ bad_bases (strand_of strand.now) }
 {
     let mut bad = false;
-    let mut i = 0;
-    while i < bases.len() {
-        bad = bad | !is_base(bases[i]);
-        i += 1;
+    for &base in strand.bases {
+        bad |= !is_base(base);
     }
     bad
 }
 
-// The bases of an absent strand are not read.
-fn is_present_and_bad(present: bool, bases: &[u8]) -> bool
-    ensures { result ≡ present && bad_bases bases.now }
+// The columns of an absent strand are not read.
+#[tactic(auto, unfolding(crate::specs::Refusals::of_strands))]
+pub fn refuse_strands(strands: &Strands<'_>) -> Result<(), Refusal>
+    ensures { result ≡ of_strands (r1_of strands.now) (r2_of strands.now) }
 {
-    if present { has_bad_base(bases) } else { false }
-}
-
-pub fn refuse_strands(
-    has_r1: bool,
-    r1: Widths,
-    r1_bases: &[u8],
-    has_r2: bool,
-    r2: Widths,
-    r2_bases: &[u8],
-) -> Refusal
-    ensures { result ≡ of_strands has_r1 r1 r1_bases.now has_r2 r2 r2_bases.now }
-{
-    let seven_r1 = refused_if(has_r1 & has_bad_columns(r1), 7, 0);
-    let seven_r2 = refused_if(has_r2 & has_bad_columns(r2), 7, 1);
-    let eight_r1 = refused_if(is_present_and_bad(has_r1, r1_bases), 8, 0);
-    let eight_r2 = refused_if(is_present_and_bad(has_r2, r2_bases), 8, 1);
-    or_else(seven_r1, or_else(seven_r2, or_else(eight_r1, eight_r2)))
-}
-
-fn is_wide(columns: Widths) -> bool
-    ensures { result ≡ is_wide columns }
-{
-    let bytes = (2048 <= columns.bases) & (2048 <= columns.quals);
-    let shorts = (2048 <= columns.depths) & (2048 <= columns.errors);
-    bytes & shorts
-}
-
-pub fn is_too_narrow(room: Room) -> bool
-    ensures { result ≡ too_narrow room }
-{
-    let duplex = room.duplex;
-    let r1 = room.r1;
-    let r2 = room.r2;
-    let wide = is_wide(duplex) & is_wide(r1) & is_wide(r2);
-    !wide | (room.listed_records < 512) | (room.listed_reasons < 512) | (room.marks < 8)
+    if strands.r1.is_some_and(|r1| has_bad_columns(&r1)) {
+        return Err(Refusal::BadColumns(ReadType::R1));
+    }
+    if strands.r2.is_some_and(|r2| has_bad_columns(&r2)) {
+        return Err(Refusal::BadColumns(ReadType::R2));
+    }
+    if strands.r1.is_some_and(|r1| has_bad_base(&r1)) {
+        return Err(Refusal::BadBase(ReadType::R1));
+    }
+    if strands.r2.is_some_and(|r2| has_bad_base(&r2)) {
+        return Err(Refusal::BadBase(ReadType::R2));
+    }
+    Ok(())
 }
 
 // Of the records, the strands, what is lent, and then the ledger.
+#[tactic(auto, unfolding(codec_stats::specs::Ledger::of_counts))]
 pub fn refuse(
     decision: Decision,
-    has_r1: bool,
-    r1: Widths,
-    r1_bases: &[u8],
-    has_r2: bool,
-    r2: Widths,
-    r2_bases: &[u8],
-    lent: Room,
+    strands: &Strands<'_>,
+    room: Room,
     ledger: Ledger,
-) -> Refusal
-    ensures { result ≡ or_else
-        (or_else (refusal_in decision)
-        (or_else (of_strands has_r1 r1 r1_bases.now has_r2 r2 r2_bases.now) (refused_if (too_narrow lent) 9 0)))
+) -> Result<(), Refusal>
+    ensures { result ≡ result_and
+        (result_and (refusal_in decision)
+        (result_and (of_strands (r1_of strands.now) (r2_of strands.now)) (of_room room)))
         (of_counts ledger) }
 {
-    let records = refusal_in(decision);
-    let strands = refuse_strands(has_r1, r1, r1_bases, has_r2, r2, r2_bases);
-    let narrow = refused_if(is_too_narrow(lent), 9, 0);
-    or_else(
-        or_else(records, or_else(strands, narrow)),
-        ledger_refusal(ledger),
-    )
+    refusal_in(decision)?;
+    refuse_strands(strands)?;
+    if room.is_too_narrow() {
+        return Err(Refusal::TooNarrow);
+    }
+    Ok(check(ledger)?)
 }

@@ -17,7 +17,7 @@ pub extern "C" fn codec_ffi_extend_cigar(
 ) -> CigarAnswer
     ensures { Converted (refusal_there words.now read.now reference.now (length output.old)) (extended words.now read.now reference.now) output.old output.new result }
 {
-    extend_cigar(words, read, reference, output)
+    CigarAnswer::from(extend_cigar(words, read, reference, output))
 }
 
 // = and X become M again, and neighbouring M's join.
@@ -25,5 +25,5 @@ pub extern "C" fn codec_ffi_extend_cigar(
 pub extern "C" fn codec_ffi_flatten_cigar(words: &[u32], output: &mut [u32]) -> CigarAnswer
     ensures { Converted (refusal_back words.now (length output.old)) (plain words.now) output.old output.new result }
 {
-    flatten_cigar(words, output)
+    CigarAnswer::from(flatten_cigar(words, output))
 }

@@ -8,14 +8,18 @@ ghost use Rattle.codec_samples.specs.SampledCall.{sampled_call_of};
 ghost use Rattle.codec_samples.specs.SampledFamily.{SampledFamilyCalled};
 
 use crate::choose::choose;
+use codec_duplex::strand::Strand;
 use codec_family::answer::FamilyAnswer;
+use codec_family::lent::Lent;
+use codec_family::strands::Strands;
 use codec_records::options::Options;
 use codec_records::records::Record;
 use codec_samples::family::consensus_reads_sampled;
 use codec_stats::ledger::Ledger;
 
 // Steps 1 to 9 of a family: the duplex into d, both padded strands into s1 and s2, the handover list into listed and reasons, the marks;
-// counted for the run and for the sample that it names.
+// counted for the run and for the sample that it names. Flags, numbers and slices one by one: no Option and no struct of slices crosses the
+// C interface.
 #[unsafe(no_mangle)]
 pub extern "C" fn codec_ffi_family(
     records: &[Record],
@@ -59,12 +63,41 @@ pub extern "C" fn codec_ffi_family(
         (samples_of «samples».new)
         (lent_of (duplex d_bases.new d_quals.new d_depths.new d_errors.new) (strand s1_bases.new s1_quals.new s1_depths.new s1_errors.new) (strand s2_bases.new s2_quals.new s2_depths.new s2_errors.new) listed.new reasons.new marks.new) }
 {
-    let len = records.len();
+    let r1 = Strand {
+        bases: r1_bases,
+        quals: r1_quals,
+        depths: r1_depths,
+        errors: r1_errors,
+    };
+    let r2 = Strand {
+        bases: r2_bases,
+        quals: r2_quals,
+        depths: r2_depths,
+        errors: r2_errors,
+    };
+    let strands = Strands {
+        r1: has_r1.then_some(r1),
+        r2: has_r2.then_some(r2),
+    };
+    let mut lent = Lent {
+        duplex_bases: d_bases,
+        duplex_quals: d_quals,
+        duplex_depths: d_depths,
+        duplex_errors: d_errors,
+        r1_bases: s1_bases,
+        r1_quals: s1_quals,
+        r1_depths: s1_depths,
+        r1_errors: s1_errors,
+        r2_bases: s2_bases,
+        r2_quals: s2_quals,
+        r2_depths: s2_depths,
+        r2_errors: s2_errors,
+        listed_records: listed,
+        listed_reasons: reasons,
+        marks,
+    };
     let chosen = choose(records, ops, options);
-    consensus_reads_sampled(
-        chosen, len, options, has_r1, r1_bases, r1_quals, r1_depths, r1_errors, has_r2, r2_bases,
-        r2_quals, r2_depths, r2_errors, ledger, sample, samples, d_bases, d_quals, d_depths,
-        d_errors, s1_bases, s1_quals, s1_depths, s1_errors, s2_bases, s2_quals, s2_depths,
-        s2_errors, listed, reasons, marks,
-    )
+    FamilyAnswer::from(consensus_reads_sampled(
+        chosen, options, &strands, ledger, sample, samples, &mut lent,
+    ))
 }

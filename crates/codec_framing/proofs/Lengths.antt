@@ -4,7 +4,7 @@ use mathlib.Core.Path.{◌≡◌, ◌∙◌}
 use Prim.Native.Nat.{ℕ}
 use lib.ListN.{length}
 use Rattle.lists.proofs.Tabulate.{length-tabulate}
-use Rattle.codec_duplex.specs.Columns.{Strand, field_at, combined_column}
+use Rattle.codec_duplex.specs.Columns.{Strand, field_at, combined_column, HasLength}
 use Rattle.codec_duplex.specs.Duplex.{Duplex}
 use Rattle.codec_duplex.specs.declared.position.Position.{Position}
 use Rattle.codec_strands.specs.Strands.{oriented, padded_strand, Within}
@@ -15,19 +15,13 @@ use Rattle.codec_framing.specs.Framing.{padded_r1, padded_r2, masked_duplex, com
 use Rattle.codec_framing.specs.declared.frame.Frame.{Frame}
 
 -- every column has n places
-pub record Long (n : ℕ) (s : Strand) : Type 0 where
-  pub bases : length s.bases ≡ n
-  pub quals : length s.quals ≡ n
-  pub depths : length s.depths ≡ n
-  pub errors : length s.errors ≡ n
-
 pub record DuplexLong (n : ℕ) (d : Duplex) : Type 0 where
   pub bases : length d.bases ≡ n
   pub quals : length d.quals ≡ n
   pub depths : length d.depths ≡ n
   pub errors : length d.errors ≡ n
 
-long_oriented : (reversed : Bool) (n : ℕ) (s : Strand) → Long n s → Long n (oriented reversed s)
+long_oriented : (reversed : Bool) (n : ℕ) (s : Strand) → HasLength n s → HasLength n (oriented reversed s)
 long_oriented reversed n s long =
     record {
       bases = length-turned_bases reversed s.bases ∙ long.bases;
@@ -36,7 +30,7 @@ long_oriented reversed n s long =
       errors = length-turned reversed s.errors ∙ long.errors;
     }
 
-long_padded : (reversed left : Bool) (n : ℕ) (s : Strand) → Within n s → Long n (padded_strand left n (oriented reversed s))
+long_padded : (reversed left : Bool) (n : ℕ) (s : Strand) → Within n s → HasLength n (padded_strand left n (oriented reversed s))
 long_padded reversed left n s within =
     record {
       bases = length_bases_padded reversed left n s.bases within.bases;
@@ -46,19 +40,19 @@ long_padded reversed left n s within =
     }
 
 module _ (f : Frame) (s : Strand) (within : Within f.length s) where
-  pub long_padded_r1 : Long f.length (padded_r1 f s)
+  pub long_padded_r1 : HasLength f.length (padded_r1 f s)
   unfolding padded_r1
   long_padded_r1 = long_padded f.r1_is_negative f.r1_is_negative f.length s within
 
-  pub long_padded_r2 : Long f.length (padded_r2 f s)
+  pub long_padded_r2 : HasLength f.length (padded_r2 f s)
   unfolding padded_r2
   long_padded_r2 = long_padded (not f.r1_is_negative) f.r2_is_negative f.length s within
 
-  pub long_strand_r1 : Long f.length (strand_r1 f s)
+  pub long_strand_r1 : HasLength f.length (strand_r1 f s)
   unfolding strand_r1
   long_strand_r1 = long_oriented f.r1_is_negative f.length (padded_r1 f s) long_padded_r1
 
-  pub long_strand_r2 : Long f.length (strand_r2 f s)
+  pub long_strand_r2 : HasLength f.length (strand_r2 f s)
   unfolding strand_r2
   long_strand_r2 = long_oriented f.r1_is_negative f.length (padded_r2 f s) long_padded_r2
 

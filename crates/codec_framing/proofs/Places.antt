@@ -1,30 +1,23 @@
 -- What stands in lent columns: strands that are written, their duplex, and both turned round where they were written.
 use mathlib.Core.Bool.{Bool}
 use mathlib.Core.List.{List}
-use mathlib.Core.Path.{◌≡◌, sym, ◌∙◌, ap, ap₂}
+use mathlib.Core.Path.{◌≡◌, ◌∙◌, ap, ap₂}
 use Prim.Native.Nat.{ℕ}
 use native.Mathlib.Omega.{arith}
 use lib.ListN.{length, take}
-use lib.Seq.{length-take-le}
 use Rattle.lists.specs.Written.{written}
-use Rattle.lists.proofs.Written.{take-written, written_again, length-written}
-use Rattle.codec_duplex.specs.Columns.{Strand, strand, Fitting}
+use Rattle.lists.proofs.Written.{take-written, written_again}
+use Rattle.codec_duplex.specs.Columns.{Strand, strand, HasLength}
 use Rattle.codec_duplex.specs.Duplex.{Duplex, duplex, written_duplex}
+use Rattle.codec_duplex.specs.Lent.{first_places}
 use Rattle.codec_strands.specs.Masks.{masked}
-use Rattle.codec_strands.specs.Strands.{turned, turned_bases, oriented, first_places, written_strand, StrandRoom}
+use Rattle.codec_strands.specs.Strands.{turned, turned_bases, oriented, written_strand}
 use Rattle.codec_strands.specs.declared.mask.Masks.{Masks}
 use Rattle.codec_strands.proofs.Orientation.{length-turned, length-turned_bases}
 use Rattle.codec_strands.proofs.StrandLaws.{same_columns, length-masked}
-use Rattle.codec_framing.specs.Framing.{padded_r1, padded_r2, masked_duplex, combined_strands, duplex_of, strand_r1, strand_r2, DuplexRoom, Framable, Framed}
+use Rattle.codec_framing.specs.Framing.{padded_r1, padded_r2, masked_duplex, combined_strands, duplex_of, strand_r1, strand_r2, Framable, Framed}
 use Rattle.codec_framing.specs.declared.frame.Frame.{Frame}
-use Rattle.codec_framing.proofs.Lengths.{Long, DuplexLong, long_padded_r1, long_padded_r2, long_strand_r1, long_strand_r2, long_combined_strands, long_duplex_of}
-
--- every column of one is as long as the other's
-pub record Alike (s t : Strand) : Type 0 where
-  pub bases : length s.bases ≡ length t.bases
-  pub quals : length s.quals ≡ length t.quals
-  pub depths : length s.depths ≡ length t.depths
-  pub errors : length s.errors ≡ length t.errors
+use Rattle.codec_framing.proofs.Lengths.{DuplexLong, long_padded_r1, long_padded_r2, long_combined_strands}
 
 pub same-duplex : {bases bases' quals quals' depths depths' errors errors' : List ℕ} → bases ≡ bases' → quals ≡ quals' → depths ≡ depths' → errors ≡ errors'
     → duplex bases quals depths errors ≡ duplex bases' quals' depths' errors'
@@ -38,24 +31,6 @@ pub masked-written : (masks : Masks) (a b : List ℕ) (n : ℕ) (quals old : Lis
 masked-written masks a b n quals old size put mask =
     mask ∙ rw (put, take-written quals old n size) (written_again quals (masked masks a b quals) old (omega (arith, length-masked masks a b quals)))
 
--- two strands and a result that have room for n places
-pub fitting_first : (n : ℕ) (a b : Strand) (d : Duplex) → StrandRoom n a → StrandRoom n b → DuplexRoom n d → Fitting (first_places n a) (first_places n b) d
-fitting_first n a b d ra rb rd =
-    let size = length-take-le n a.bases ra.bases in
-    record {
-      a_quals = length-take-le n a.quals ra.quals ∙ sym size;
-      a_depths = length-take-le n a.depths ra.depths ∙ sym size;
-      a_errors = length-take-le n a.errors ra.errors ∙ sym size;
-      b_bases = length-take-le n b.bases rb.bases ∙ sym size;
-      b_quals = length-take-le n b.quals rb.quals ∙ sym size;
-      b_depths = length-take-le n b.depths rb.depths ∙ sym size;
-      b_errors = length-take-le n b.errors rb.errors ∙ sym size;
-      bases = omega (arith, size, rd.bases);
-      quals = omega (arith, size, rd.quals);
-      depths = omega (arith, size, rd.depths);
-      errors = omega (arith, size, rd.errors);
-    }
-
 -- a column that is written, and whose places are then turned round
 turned-column : {A : Type 0} (reversed : Bool) (n : ℕ) (xs old : List A) → length xs ≡ n
     → written (turned reversed (take n (written xs old))) (written xs old) ≡ written (turned reversed xs) old
@@ -67,7 +42,7 @@ turned_bases_lem : (reversed : Bool) (n : ℕ) (xs old : List ℕ) → length xs
 turned_bases_lem reversed n xs old long =
     rw (take-written xs old n long) (written_again xs (turned_bases reversed xs) old (omega (arith, length-turned_bases reversed xs)))
 
-module _ (n : ℕ) (s before : Strand) {mid : Strand} (long : Long n s) (put : mid ≡ written_strand s before) where
+module _ (n : ℕ) (s before : Strand) {mid : Strand} (long : HasLength n s) (put : mid ≡ written_strand s before) where
   -- the strand is read again from where it was written
   first_written : first_places n mid ≡ s
   first_written =
@@ -90,26 +65,6 @@ module _ (n : ℕ) (s before : Strand) {mid : Strand} (long : Long n s) (put : m
       (turned-column reversed n s.depths before.depths long.depths)
       (turned-column reversed n s.errors before.errors long.errors)
 
-  -- no column becomes longer or shorter
-  alike-written : StrandRoom n before → Alike mid before
-  alike-written room =
-      record {
-        bases = ap (λ (m : Strand). length m.bases) put ∙ length-written s.bases before.bases (omega (arith, long.bases, room.bases));
-        quals = ap (λ (m : Strand). length m.quals) put ∙ length-written s.quals before.quals (omega (arith, long.quals, room.quals));
-        depths = ap (λ (m : Strand). length m.depths) put ∙ length-written s.depths before.depths (omega (arith, long.depths, room.depths));
-        errors = ap (λ (m : Strand). length m.errors) put ∙ length-written s.errors before.errors (omega (arith, long.errors, room.errors));
-      }
-
-  room_written : StrandRoom n before → StrandRoom n mid
-  room_written room =
-      let same = alike-written room in
-      record {
-        bases = omega (arith, same.bases, room.bases);
-        quals = omega (arith, same.quals, room.quals);
-        depths = omega (arith, same.depths, room.depths);
-        errors = omega (arith, same.errors, room.errors);
-      }
-
 -- the same four columns
 abbrev as_strand : Duplex → Strand
 as_strand d = strand d.bases d.quals d.depths d.errors
@@ -117,21 +72,12 @@ as_strand d = strand d.bases d.quals d.depths d.errors
 abbrev as_duplex : Strand → Duplex
 as_duplex s = duplex s.bases s.quals s.depths s.errors
 
-long_columns : {n : ℕ} {d : Duplex} → DuplexLong n d → Long n (as_strand d)
+long_columns : {n : ℕ} {d : Duplex} → DuplexLong n d → HasLength n (as_strand d)
 long_columns long = record { bases = long.bases; quals = long.quals; depths = long.depths; errors = long.errors }
-
-room_columns : {n : ℕ} {d : Duplex} → DuplexRoom n d → StrandRoom n (as_strand d)
-room_columns room = record { bases = room.bases; quals = room.quals; depths = room.depths; errors = room.errors }
 
 module _ (masks : Masks) {f : Frame} {r1 r2 : Strand} {d : Duplex} {s1 s2 : Strand} (fits : Framable f r1 r2 d s1 s2) where
   -- where the padded strands were written
   module _ {mid1 mid2 : Strand} (put1 : mid1 ≡ written_strand (padded_r1 f r1) s1) (put2 : mid2 ≡ written_strand (padded_r2 f r2) s2) where
-    pub padded_rooms : StrandRoom f.length mid1 × StrandRoom f.length mid2
-    padded_rooms = (
-      room_written f.length (padded_r1 f r1) s1 (long_padded_r1 f r1 fits.r1) put1 fits.s1,
-      room_written f.length (padded_r2 f r2) s2 (long_padded_r2 f r2 fits.r2) put2 fits.s2,
-    )
-
     -- and where their duplex was
     module _ {bases quals depths errors : List ℕ} (put : duplex bases quals depths errors ≡ written_duplex (masked_duplex masks (first_places f.length mid1) (first_places f.length mid2)) d) where
       combined-written : duplex bases quals depths errors ≡ written_duplex (combined_strands masks f r1 r2) d
@@ -141,11 +87,6 @@ module _ (masks : Masks) {f : Frame} {r1 r2 : Strand} {d : Duplex} {s1 s2 : Stra
           ∙ ap₂ (λ (a b : Strand). written_duplex (masked_duplex masks a b) d)
           (first_written f.length (padded_r1 f r1) s1 (long_padded_r1 f r1 fits.r1) put1)
           (first_written f.length (padded_r2 f r2) s2 (long_padded_r2 f r2 fits.r2) put2)
-
-      pub combined_room : StrandRoom f.length (strand bases quals depths errors)
-      combined_room =
-          room_written f.length (as_strand (combined_strands masks f r1 r2)) (as_strand d) (long_columns (long_combined_strands masks f r1 r2 fits.r1))
-          (ap as_strand combined-written) (room_columns fits.duplex)
 
       -- all three are turned back by the same test
       pub framed : {bases' quals' depths' errors' : List ℕ} {after1 after2 : Strand}
@@ -163,16 +104,3 @@ module _ (masks : Masks) {f : Frame} {r1 r2 : Strand} {d : Duplex} {s1 s2 : Stra
             s1 = turned-written f.length (padded_r1 f r1) s1 (long_padded_r1 f r1 fits.r1) put1 f.r1_is_negative turn1;
             s2 = turned-written f.length (padded_r2 f r2) s2 (long_padded_r2 f r2 fits.r2) put2 f.r1_is_negative turn2;
           }
-
-  -- every length is kept, since what is written has room
-  module _ {bases quals depths errors : List ℕ} {after1 after2 : Strand} (done : Framed f masks r1 r2 d (duplex bases quals depths errors) s1 after1 s2 after2) where
-    pub duplex-kept : Alike (strand bases quals depths errors) (as_strand d)
-    duplex-kept =
-        alike-written f.length (as_strand (duplex_of masks f r1 r2)) (as_strand d) (long_columns (long_duplex_of masks f r1 r2 fits.r1))
-        (ap as_strand done.duplex) (room_columns fits.duplex)
-
-    pub r1_kept : Alike after1 s1
-    r1_kept = alike-written f.length (strand_r1 f r1) s1 (long_strand_r1 f r1 fits.r1) done.s1 fits.s1
-
-    pub r2_kept : Alike after2 s2
-    r2_kept = alike-written f.length (strand_r2 f r2) s2 (long_strand_r2 f r2 fits.r2) done.s2 fits.s2

@@ -1,30 +1,37 @@
 -- Document 01, 'A family', step 9: the strands of a duplex, its tallies and its columns. A frame has step 7's length, and
 -- whether R1's longest and R2's longest have flag 16.
-use Rattle.std.specs.Prelude.{Bool, not, List, ◌≡◌, ℕ, ◌≤◌, length}
-use Rattle.codec_duplex.specs.Columns.{Strand, combined_column}
+use Rattle.std.specs.Prelude.{Bool, not, List, ◌≡◌, ℕ}
+use Rattle.codec_duplex.specs.Columns.{Strand, combined_column, HasRoom}
 use Rattle.codec_duplex.specs.Duplex.{Duplex, duplex, written_duplex}
 use Rattle.codec_duplex.specs.Tally.{tallied}
 use Rattle.codec_duplex.specs.declared.position.Position.{Position}
 use Rattle.codec_duplex.specs.declared.tally.DuplexBaseTally.{DuplexBaseTally}
 use Rattle.codec_strands.specs.Masks.{masked}
-use Rattle.codec_strands.specs.Strands.{turned, turned_bases, oriented, padded, padded_strand, written_strand, Within, StrandRoom}
+use Rattle.codec_strands.specs.Strands.{turned, turned_bases, oriented, laid, laid_bases, written_strand, Within, StrandRoom}
+use Rattle.codec_strands.specs.declared.layout.Layout.{Layout}
 use Rattle.codec_strands.specs.declared.mask.Masks.{Masks}
 use Rattle.codec_framing.specs.declared.frame.Frame.{Frame}
 
 -- 'If R1 is negative its strand is reverse complemented'; 'padded on the left if its own side's longest has flag 16'
-unfoldable pub padded_r1 : Frame → Strand → Strand
-padded_r1 f s = padded_strand f.r1_is_negative f.length (oriented f.r1_is_negative s)
+abbrev pub layout_r1 : Frame → Layout
+layout_r1 f = record { length = f.length; reversed = f.r1_is_negative; left = f.r1_is_negative }
 
 -- 'otherwise R2's'
+abbrev pub layout_r2 : Frame → Layout
+layout_r2 f = record { length = f.length; reversed = not f.r1_is_negative; left = f.r2_is_negative }
+
+unfoldable pub padded_r1 : Frame → Strand → Strand
+padded_r1 f s = laid (layout_r1 f) s
+
 unfoldable pub padded_r2 : Frame → Strand → Strand
-padded_r2 f s = padded_strand f.r2_is_negative f.length (oriented (not f.r1_is_negative) s)
+padded_r2 f s = laid (layout_r2 f) s
 
 -- the same of bases alone
 unfoldable pub padded_bases_r1 : Frame → List ℕ → List ℕ
-padded_bases_r1 f bases = padded f.r1_is_negative 110 f.length (turned_bases f.r1_is_negative bases)
+padded_bases_r1 f bases = laid_bases (layout_r1 f) bases
 
 unfoldable pub padded_bases_r2 : Frame → List ℕ → List ℕ
-padded_bases_r2 f bases = padded f.r2_is_negative 110 f.length (turned_bases (not f.r1_is_negative) bases)
+padded_bases_r2 f bases = laid_bases (layout_r2 f) bases
 
 -- the positions that both strands call as step 9 combines them, and those of them where the bases differ
 unfoldable pub tally_of : Frame → (r1 r2 : List ℕ) → DuplexBaseTally
@@ -58,18 +65,11 @@ strand_r1 f r1 = oriented f.r1_is_negative (padded_r1 f r1)
 unfoldable pub strand_r2 : Frame → Strand → Strand
 strand_r2 f r2 = oriented f.r1_is_negative (padded_r2 f r2)
 
--- no column has less than n places
-pub record DuplexRoom (n : ℕ) (d : Duplex) : Type 0 where
-  pub bases : n ≤ length d.bases
-  pub quals : n ≤ length d.quals
-  pub depths : n ≤ length d.depths
-  pub errors : n ≤ length d.errors
-
 -- no strand is longer than the duplex, and no result is shorter
 pub record Framable (f : Frame) (first second : Strand) (lent : Duplex) (lent1 lent2 : Strand) : Type 0 where
   pub r1 : Within f.length first
   pub r2 : Within f.length second
-  pub duplex : DuplexRoom f.length lent
+  pub duplex : HasRoom f.length lent
   pub s1 : StrandRoom f.length lent1
   pub s2 : StrandRoom f.length lent2
 

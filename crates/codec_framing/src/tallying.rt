@@ -4,19 +4,19 @@ ghost use Rattle.codec_framing.specs.Framing.{tally_of};
 
 use crate::frame::Frame;
 use codec_duplex::tally::{DuplexBaseTally, tally};
-use codec_strands::strand::write_bases;
+use codec_strands::bases::write_bases;
 
 // Bases alone are padded, into scratch, so that a rejected duplex touches no column.
 pub fn tally_strands(frame: Frame, r1_bases: &[u8], r2_bases: &[u8]) -> DuplexBaseTally
-    requires { (length r1_bases.now ≤ frame.length) × (length r2_bases.now ≤ frame.length) × (frame.length ≤ 2048) }
+    requires r1_fits { length r1_bases.now ≤ frame.length }
+    requires r2_fits { length r2_bases.now ≤ frame.length }
+    requires short { frame.length ≤ 2048 }
     ensures { result ≡ tally_of frame r1_bases.now r2_bases.now }
 {
     let n = frame.length;
-    let r1_negative = frame.r1_is_negative;
-    let r2_negative = frame.r2_is_negative;
     let mut first = [0u8; 2048];
     let mut second = [0u8; 2048];
-    write_bases(r1_bases, r1_negative, r1_negative, n, &mut first);
-    write_bases(r2_bases, !r1_negative, r2_negative, n, &mut second);
+    write_bases(r1_bases, frame.r1(), &mut first);
+    write_bases(r2_bases, frame.r2(), &mut second);
     tally(&first[..n], &second[..n])
 }

@@ -1,20 +1,24 @@
 -- The remaining records of a name, read off a search for them.
-use mathlib.Core.Bool.{Bool, true, false, cond, not, ◌||◌, and-true, false≢true}
+use mathlib.Core.Bool.{Bool, true, false, not, and-true, false≢true}
 use mathlib.Core.List.{List, [], ◌∷◌}
 use mathlib.Core.Logic.{⊎_elim}
-use mathlib.Core.Path.{◌≡◌, refl, sym, ◌∙◌}
+use mathlib.Core.Path.{◌≡◌, refl, sym, ◌∙◌, ap}
 use Prim.Native.Nat.{ℕ, zero, suc, zero-le, ◌+◌, ◌-◌, ◌≤◌, ◌<◌}
-use native.Mathlib.Nat.{add-zero, zero-add, suc-add, eq-zero-or-pos}
+use native.Mathlib.Nat.{add-zero, zero-add, suc-add}
 use native.Mathlib.Omega.{arith}
 use borrow.Author.Tests.{eq-eqb, eqb-true, not-true}
 use lib.Dec.{eqb}
-use lib.ListN.{length, get_or}
+use lib.ListN.{length, get_or, take, drop}
+use Rattle.std.proofs.Common.{get_or-take, get_or-drop, length-take, length-drop}
+use Rattle.std.proofs.lemmas.List.Folds.{list_any_at}
+use Rattle.std.specs.Prelude.{Option, None, Some, IfNone, IfSome}
+use Rattle.std.specs.Option as option
 use Rattle.std.proofs.lemmas.Bool.{and_parts, false_from_ne_true}
 use Rattle.lists.specs.Numbers.{numbers_from}
 use Rattle.lists.proofs.Numbers.{numbers_first, numbers_yes, numbers_no, numbers_end, numbers_has}
 use Rattle.raw_bam.specs.Flags.{paired_flag, has_flag}
 use Rattle.codec_pairing.specs.Pairing.{not_primary, remains, is_namesake, namesakes_from, namesakes, is_pair, is_first, is_entered, fate_of, opens_pair, later_of}
-use Rattle.codec_pairing.specs.Search.{is_some, has_namesake}
+use Rattle.codec_pairing.specs.Search.{has_name, is_some, has_namesake}
 use Rattle.codec_pairing.proofs.Sides.{one_of_two, opens_namesakes, later-after}
 
 module _ (flags names : List ℕ) (name i : ℕ) where
@@ -33,40 +37,47 @@ module _ (flags names : List ℕ) (name i : ℕ) where
   none_behind h = numbers_end (is_namesake flags names name) (length flags) i h
 
 -- numbers of which none meets a test are passed over
-none_of : (test : ℕ → Bool) (count from more : ℕ) → is_some (numbers_from test from count) ≡ false → numbers_from test from (count + more) ≡ numbers_from test (from + count) more
-unfolding is_some
+none_of : (test : ℕ → Bool) (count from more : ℕ) → ((k : ℕ) → from ≤ k → k < from + count → test k ≡ false) → numbers_from test from (count + more) ≡ numbers_from test (from + count) more
 none_of test zero from more none = rw (zero-add, add-zero)
 none_of test (suc count) from more none =
     let place : suc from + count ≡ from + suc count = omega arith in
-    rw (suc-add, ← place, numbers_first) (by_test (test from) (rw numbers_first at none) (none_of test count (suc from) more))
-  where
-    by_test : (b : Bool) → is_some (cond b (from ∷ numbers_from test (suc from) count) (numbers_from test (suc from) count)) ≡ false
-        → (is_some (numbers_from test (suc from) count) ≡ false → numbers_from test (suc from) (count + more) ≡ numbers_from test (suc from + count) more)
-        → cond b (from ∷ numbers_from test (suc from) (count + more)) (numbers_from test (suc from) (count + more)) ≡ numbers_from test (suc from + count) more
-    by_test true none later = absurd (false≢true (sym none))
-    by_test false none later = later none
+    rw (suc-add, ← place, numbers_first, none from (omega arith) (omega arith)) (none_of test count (suc from) more (λ k h below. none k (omega arith) (omega arith)))
 
-module _ (flags names : List ℕ) (name from to : ℕ) where
-  -- no record of the name stands between
-  pub none_between : from ≤ to → to ≤ length flags → has_namesake flags names name from to ≡ false → namesakes_from flags names name from ≡ namesakes_from flags names name to
-  unfolding has_namesake namesakes_from
-  none_between h within none =
-      let all : length flags - from ≡ (to - from) + (length flags - to) = omega arith in
-      let place : from + (to - from) ≡ to = omega arith in
-      rw all (rw place at (none_of (is_namesake flags names name) (to - from) from (length flags - to) none))
+module _ (flags names : List ℕ) (name : ℕ) where
+  -- where none of some records has the name, each of them is passed over
+  not-namesake : (some : List ℕ) → has_name some name ≡ false → (k place : ℕ) → k < length some → get_or some k 0 ≡ get_or names place 0 → is_namesake flags names name place ≡ false
+  unfolding is_namesake
+  not-namesake some none k place h same =
+      let other : eqb (get_or names place 0) name ≡ false = false_from_ne_true _ (λ e. false≢true (sym none ∙ list_any_at (λ other. eqb other name) some k 0 h (rw same e))) in
+      rw other
 
-  -- one record more is asked
-  pub asked_more : (k : ℕ) → k < to → has_namesake flags names name k to ≡ is_namesake flags names name k || has_namesake flags names name (k + 1) to
-  unfolding has_namesake is_some
-  asked_more k h = by_test (is_namesake flags names name k) refl
-    where
-      by_test : (b : Bool) → is_namesake flags names name k ≡ b → is_some (numbers_from (is_namesake flags names name) k (to - k)) ≡ b || is_some (numbers_from (is_namesake flags names name) (k + 1) (to - (k + 1)))
-      by_test true e = rw (numbers_yes (is_namesake flags names name) to k h e)
-      by_test false e = rw (numbers_no (is_namesake flags names name) to k h e)
+  -- no record of the name stands before record i
+  pub none_before : (i : ℕ) → i ≤ length flags → length names ≡ length flags → has_name (take i names) name ≡ false → namesakes_from flags names name 0 ≡ namesakes_from flags names name i
+  unfolding namesakes_from
+  none_before i h alike none =
+      let all : length flags - 0 ≡ i + (length flags - i) = omega arith in
+      rw all (rw zero-add at (none_of (is_namesake flags names name) i 0 (length flags - i) (λ k _ below. not-namesake (take i names) none k k (simp length-take (omega arith)) (get_or-take i names k 0 (omega arith)))))
 
-  pub asked-all : (k : ℕ) → to ≤ k → has_namesake flags names name k to ≡ false
-  unfolding has_namesake is_some
-  asked-all k h = rw (numbers_end (is_namesake flags names name) to k h)
+  -- nor from record i on
+  none_after : (i : ℕ) → i ≤ length flags → length names ≡ length flags → has_name (take (length names - i) (drop i names)) name ≡ false → namesakes_from flags names name i ≡ []
+  unfolding namesakes_from numbers_from
+  none_after i h alike none =
+      let all : length flags - i ≡ (length flags - i) + 0 = omega arith in
+      rw all (none_of (is_namesake flags names name) (length flags - i) i 0 (λ k from below.
+      let place : i + (k - i) ≡ k = omega arith in
+      not-namesake (take (length names - i) (drop i names)) none (k - i) k (simp (length-take, length-drop) (omega arith))
+      (get_or-take (length names - i) (drop i names) (k - i) 0 (omega arith) ∙ get_or-drop i names (k - i) 0 ∙ ap (λ (j : ℕ). get_or names j 0) place)))
+
+-- a search for a record finds whether there is one
+pub some_found : (found : Option ℕ) (records : List ℕ) (rest : ℕ → List ℕ) → IfNone found (records ≡ []) → IfSome found (λ r. records ≡ r ∷ rest r) → option.is_some found ≡ is_some records
+unfolding is_some
+some_found None records rest none next = rw none
+some_found (Some r) records rest none next = rw next
+
+-- where none has the name, there is none
+pub none_named : (flags names : List ℕ) (name i : ℕ) → i ≤ length flags → length names ≡ length flags → has_name (take (length names - i) (drop i names)) name ≡ false → has_namesake flags names name i ≡ false
+unfolding is_some
+none_named flags names name i h alike none = rw (none_after flags names name i h alike none)
 
 -- the one record of a name is no pair
 pub alone : (verdicts : List Bool) (one : ℕ) → is_pair verdicts (one ∷ []) ≡ false
@@ -85,12 +96,10 @@ module _ (flags names : List ℕ) (verdicts : List Bool) (name one two : ℕ) wh
   no_third [] none = refl
   no_third (three ∷ more) none = absurd (false≢true (sym none))
 
-  pub third_found : has_namesake flags names name (two + 1) (length flags) ≡ true → is_pair verdicts (one ∷ two ∷ namesakes_from flags names name (two + 1)) ≡ false
-  unfolding has_namesake namesakes_from
+  pub third_found : has_namesake flags names name (two + 1) ≡ true → is_pair verdicts (one ∷ two ∷ namesakes_from flags names name (two + 1)) ≡ false
   third_found some = third _ some
 
-  pub none_found : has_namesake flags names name (two + 1) (length flags) ≡ false → is_pair verdicts (one ∷ two ∷ namesakes_from flags names name (two + 1)) ≡ get_or verdicts one false
-  unfolding has_namesake namesakes_from
+  pub none_found : has_namesake flags names name (two + 1) ≡ false → is_pair verdicts (one ∷ two ∷ namesakes_from flags names name (two + 1)) ≡ get_or verdicts one false
   none_found none = no_third _ none
 
 module _ (flags names : List ℕ) (verdicts : List Bool) (i : ℕ) where

@@ -14,8 +14,8 @@ is_namesake f name i = columns.is_namesake f.flags.now f.names.now name i
 abbrev pub namesakes_from : Family → ℕ → ℕ → List ℕ
 namesakes_from f name from = columns.namesakes_from f.flags.now f.names.now name from
 
-abbrev pub has_namesake : Family → ℕ → ℕ → ℕ → Bool
-has_namesake f name from to = search.has_namesake f.flags.now f.names.now name from to
+abbrev pub has_namesake : Family → ℕ → ℕ → Bool
+has_namesake f name from = search.has_namesake f.flags.now f.names.now name from
 
 abbrev pub is_pair : Family → ℕ → Bool
 is_pair f i = columns.is_pair f.verdicts.now (columns.namesakes f.flags.now f.names.now i)

@@ -1,12 +1,12 @@
 -- Document 01, the table of refusals: 1 to 6, which are asked of a family before any step.
-use Rattle.std.specs.Prelude.{Bool, false, cond, not, ◌&&◌, ◌||◌, List, [], ◌∷◌, map, Option, None, Some, slice_get, ◌≡◌, ℕ, ◌+◌, eqb, ltb, length, get_or}
+use Rattle.std.specs.Prelude.{Bool, false, cond, not, ◌&&◌, ◌||◌, List, map, Option, None, Some, Result, Ok, Err, slice_get, ◌≡◌, ℕ, ◌+◌, eqb, ltb, length, get_or}
 use Rattle.std.specs.List.{list_all}
+use Rattle.std.specs.Result.{result_and}
 use Rattle.lists.specs.Numbers.{numbers_from}
 use Rattle.raw_bam.specs.Cigar.{is_operation, part_of, read_length, reference_length}
 use Rattle.caller.specs.Fates.{undecided_number}
-use Rattle.caller.specs.Refusals.{or_else}
 use Rattle.caller.specs.declared.refusal.Refusal.{Refusal}
-use Rattle.caller.specs.declared.refusal.Refusal.TheVariants.{NoRefusal, Refused}
+use Rattle.caller.specs.declared.refusal.Refusal.TheVariants.{MinimumTooLong, TooManyRecords, BadPart, BadOperation, BadLength, BadPlace}
 use Rattle.codec_pairing.specs.declared.refusal.Read.{Read}
 
 abbrev pub ops_of : List ℕ → Read → List ℕ
@@ -67,24 +67,24 @@ gives bad f i = get_or f.entered i false && bad (read_of f i)
 unfoldable pub lowest_bad : (Read → Bool) → Reads → Option ℕ
 lowest_bad bad f = slice_get (numbers_from (gives bad f) 0 (length f.clipped)) 0
 
--- by the table's column 'No.'
-abbrev pub refused_at : ℕ → Option ℕ → Refusal
-refused_at number None = NoRefusal
-refused_at number (Some i) = Refused number i
+-- a cause, with the record that has it
+abbrev pub refused_at : (ℕ → Refusal) → Option ℕ → Result Unit Refusal
+refused_at cause None = Ok tt
+refused_at cause (Some i) = Err (cause i)
 
 -- 'Lowest number first', over all records
-unfoldable pub refusal_of_records : Reads → Refusal
+unfoldable pub refusal_of_records : Reads → Result Unit Refusal
 refusal_of_records f =
-    or_else (refused_at 3 (lowest_bad (has_bad_part f.ops) f))
-    (or_else (refused_at 4 (lowest_bad (has_bad_words f.ops) f))
-    (or_else (refused_at 5 (lowest_bad (has_bad_bases f.ops) f))
-    (refused_at 6 (lowest_bad (has_bad_place f.ops) f))))
+    result_and (refused_at BadPart (lowest_bad (has_bad_part f.ops) f))
+    (result_and (refused_at BadOperation (lowest_bad (has_bad_words f.ops) f))
+    (result_and (refused_at BadLength (lowest_bad (has_bad_bases f.ops) f))
+    (refused_at BadPlace (lowest_bad (has_bad_place f.ops) f))))
 
--- 1: 'minimum duplex length above 2,147,483,647', with 0; 2: 'over 512 records or 8,192 operation words', with 0; then 3 to 6
-unfoldable pub first_refusal : ℕ → ℕ → Reads → Refusal
+-- 1: 'minimum duplex length above 2,147,483,647'; 2: 'over 512 records or 8,192 operation words'; then 3 to 6
+unfoldable pub first_refusal : ℕ → ℕ → Reads → Result Unit Refusal
 first_refusal minimum records f =
-    cond (ltb 2147483647 minimum) (Refused 1 0)
-    (cond (ltb 512 records || ltb 8192 (length f.ops)) (Refused 2 0) (refusal_of_records f))
+    cond (ltb 2147483647 minimum) (Err MinimumTooLong)
+    (cond (ltb 512 records || ltb 8192 (length f.ops)) (Err TooManyRecords) (refusal_of_records f))
 
 -- after steps 1 and 2 a record that has no fate is entered
 abbrev pub is_undecided : ℕ → Bool

@@ -3,6 +3,7 @@ ghost use Rattle.std.specs.Prelude.{true, None, Some, ◌≡◌, ℕ, ◌+◌, [
 ghost use Rattle.lists.specs.Tabulate.{tabulate};
 ghost use Rattle.lists.specs.Written.{written};
 ghost use Rattle.codec_pairing.specs.Pairing.{not_primary, remains};
+ghost use Rattle.codec_pairing.specs.Search.{has_name};
 ghost use Rattle.codec_pairing.specs.Family.{name_of, is_namesake, namesakes_from, has_namesake, is_pair, later_of, opens_pair, fate_of, side_r1, side_r2};
 
 use caller::fates::{PASSED_OVER, UNDECIDED};
@@ -24,16 +25,16 @@ fn is_remaining(flags: u16) -> bool
     is_paired(flags) && !is_not_primary(flags)
 }
 
-// Record i has the name, and remains. There is no branch, so that a scan asks many at once.
+// Record i has the name, and remains.
 #[tactic(auto, unfolding(crate::specs::Pairing::is_namesake))]
 fn is_namesake(family: &Family, name: u32, i: usize) -> bool
     requires { i < length family.now.flags.now }
     ensures { result ≡ is_namesake family.now name i }
 {
-    (family.names[i] == name) & is_remaining(family.flags[i])
+    family.names[i] == name && is_remaining(family.flags[i])
 }
 
-// The next record of a name that remains, from one on.
+// The next record of a name that remains, from one on. A for: of find the check does not see that none is passed over.
 fn next_namesake(family: &Family, name: u32, from: usize) -> Option<usize>
     requires { from ≤ length family.now.flags.now }
     ensures none { IfNone result (namesakes_from family.now name from ≡ []) }
@@ -48,19 +49,26 @@ fn next_namesake(family: &Family, name: u32, from: usize) -> Option<usize>
     None
 }
 
-// Some record from one on and before another remains and has the name. All are asked, with no early end, so that many are at once.
-fn has_namesake(family: &Family, name: u32, from: usize, to: usize) -> bool
-    requires { (from ≤ to) × (to ≤ length family.now.flags.now) }
-    ensures { result ≡ has_namesake family.now name from to }
+// Some record has the name. All are asked, with no early end, so that many are at once.
+fn has_name(names: &[u32], name: u32) -> bool
+    ensures { result ≡ has_name names.now name }
 {
     let mut any = false;
-    for k in from..to {
-        any |= is_namesake(family, name, k);
+    for &other in names {
+        any |= other == name;
     }
     any
 }
 
-// The last record of record i's name that remains before it.
+// Some record from one on remains and has the name. Mostly none has the name at all.
+fn has_namesake(family: &Family, name: u32, from: usize) -> bool
+    requires { from ≤ length family.now.flags.now }
+    ensures { result ≡ has_namesake family.now name from }
+{
+    has_name(&family.names[from..], name) && next_namesake(family, name, from).is_some()
+}
+
+// The last record of record i's name that remains before it. A for, as above.
 fn previous_namesake(family: &Family, i: usize) -> Option<usize>
     requires { i < length family.now.flags.now }
     ensures none { IfNone result (namesakes_from family.now (name_of family.now i) 0 ≡ namesakes_from family.now (name_of family.now i) i) }
@@ -68,7 +76,7 @@ fn previous_namesake(family: &Family, i: usize) -> Option<usize>
     ensures before { IfSome result (λ r. r < i) }
 {
     let name = family.names[i];
-    if !has_namesake(family, name, 0, i) {
+    if !has_name(&family.names[..i], name) {
         return None;
     }
     for k in (0..i).rev() {
@@ -89,7 +97,7 @@ fn pair_of(family: &Family, i: usize) -> Option<usize>
 {
     let name = family.names[i];
     let later = next_namesake(family, name, i + 1)?;
-    if has_namesake(family, name, later + 1, family.len()) {
+    if has_namesake(family, name, later + 1) {
         return None;
     }
     family.verdicts[i].then_some(later)

@@ -59,7 +59,7 @@ fn ops_of(ops: &[u32], read: Read) -> &[u32]
     &ops[start..end]
 }
 
-// The lowest entered record that is bad.
+// The lowest entered record that is bad. A for: of find the check does not see that none is passed over.
 fn lowest_bad<F: Fn(Read) -> bool>(family: &Family, fates: &[u8], is_bad: F) -> Option<usize>
     requires fates_len { length fates.now ≡ length family.now.flags.now }
     requires callable { F.IsAlwaysCallable is_bad }
@@ -80,7 +80,7 @@ fn lowest_bad<F: Fn(Read) -> bool>(family: &Family, fates: &[u8], is_bad: F) -> 
 }
 
 // All records are asked for one cause before any is asked for the next.
-fn refusal_of_records(family: &Family, fates: &[u8]) -> Refusal
+fn refusal_of_records(family: &Family, fates: &[u8]) -> Result<(), Refusal>
     requires fates_len { length fates.now ≡ length family.now.flags.now }
     requires ops_len_bound { length family.now.ops.now ≤ 8192 }
     ensures { result ≡ refusal_of_records (reads fates.now family.now) }
@@ -88,17 +88,17 @@ fn refusal_of_records(family: &Family, fates: &[u8]) -> Refusal
     let ops = family.ops;
     let by_part = lowest_bad(family, fates, |read| is_bad_part(ops.len(), read));
     if let Some(i) = by_part {
-        return Refusal::Refused(3, i);
+        return Err(Refusal::BadPart(i));
     }
     let by_words = lowest_bad(family, fates, |read| has_bad_word(ops_of(ops, read)));
     if let Some(i) = by_words {
-        return Refusal::Refused(4, i);
+        return Err(Refusal::BadOperation(i));
     }
     let by_bases = lowest_bad(family, fates, |read| {
         has_bad_bases(read.clipped_length, ops_of(ops, read))
     });
     if let Some(i) = by_bases {
-        return Refusal::Refused(5, i);
+        return Err(Refusal::BadLength(i));
     }
     let by_place = lowest_bad(
         family,
@@ -106,22 +106,26 @@ fn refusal_of_records(family: &Family, fates: &[u8]) -> Refusal
         |read| is_bad_place(read.position, ops_of(ops, read)),
     );
     if let Some(i) = by_place {
-        return Refusal::Refused(6, i);
+        return Err(Refusal::BadPlace(i));
     }
-    Refusal::NoRefusal
+    Ok(())
 }
 
 // Where the records or the words are too many, no record is read.
 #[tactic(auto, unfolding(crate::specs::Refusals::first_refusal))]
-pub fn first_refusal(minimum_duplex_length: u64, family: &Family, fates: &[u8]) -> Refusal
+pub fn first_refusal(
+    minimum_duplex_length: u64,
+    family: &Family,
+    fates: &[u8],
+) -> Result<(), Refusal>
     requires { length fates.now ≡ length family.now.flags.now }
     ensures { result ≡ first_refusal minimum_duplex_length family.now.given (reads fates.now family.now) }
 {
     if 2147483647 < minimum_duplex_length {
-        return Refusal::Refused(1, 0);
+        return Err(Refusal::MinimumTooLong);
     }
     if 512 < family.given || 8192 < family.ops.len() {
-        return Refusal::Refused(2, 0);
+        return Err(Refusal::TooManyRecords);
     }
     refusal_of_records(family, fates)
 }

@@ -2,7 +2,7 @@
 use mathlib.Core.Bool.{Bool, true, false, cond, ◌||◌}
 use mathlib.Core.List.{List, [], ◌∷◌, ◌++◌, append-nil}
 use mathlib.Core.Path.{◌≡◌, refl, sym, ◌∙◌, ap, ap₂, fun_ext}
-use Prim.Native.Nat.{ℕ, zero, suc, ◌+◌, ◌-◌, ◌*◌, ◌^◌, ◌/◌, ◌%◌, ◌≤◌, ◌<◌, min}
+use Prim.Native.Nat.{ℕ, zero, suc, ◌+◌, ◌*◌, ◌^◌, ◌/◌, ◌%◌, ◌≤◌, ◌<◌, min}
 use native.Mathlib.Decide.{dec_lt, ℕ_discrete}
 use native.Mathlib.Nat.{zero-div}
 use native.Mathlib.Numerals.{add-one}
@@ -11,7 +11,7 @@ use borrow.Author.Tests.{eq-eqb, ne_eqb}
 use lib.Dec.{eqb}
 use lib.ListN.{length, get_or, set, take, drop, replicate, length-replicate, length-set, replicate-append-replicate, drop_of_length-le, get_or-append, length-append}
 use lib.Pow.{pow_mono, shr-shr}
-use lib.Seq.{get_or-set_same, get_or-set_other, drop-cons, take-nil, ext_get_or, get_or-take, get_or-drop, length-take-le, take-append_seam, drop-append_seam}
+use lib.Seq.{get_or-set_same, get_or-set_other, take-nil, ext_get_or, get_or-take, get_or-drop, length-take-le, take-append_seam, drop-append_seam}
 use Rattle.std.proofs.lemmas.List.{nil_from_length, take_all, drop-drop}
 use mir.Val.{bool_byte}
 use Rattle.lists.specs.Tabulate.{tabulate}
@@ -21,12 +21,6 @@ use Rattle.lists.proofs.Tabulate.{length-tabulate, get_d_tabulate, tabulate_get_
 use Rattle.lists.proofs.Written.{length-written, get_d-written_beyond}
 use Rattle.lists.specs.Member.{is_in}
 use Rattle.codec_records.specs.Marks.{word_of, word_at, marks, flagged, side_flags}
-use Rattle.lists.proofs.Parts.{part_within}
-
--- one flag more, in front of the others
-pub word_more : (flags : List Bool) (i : ℕ) → i < length flags → word_of (drop i flags) ≡ cond (get_or flags i false) 1 0 + 2 * word_of (drop (i + 1) flags)
-unfolding word_of
-word_more flags i h = rw (add-one, drop-cons flags i false)
 
 pub bit_of : (flag : Bool) → bool_byte flag ≡ cond flag 1 0
 bit_of true = refl
@@ -116,10 +110,6 @@ mark_at flags i h =
     rw (get_d_tabulate (word_at flags) 8 (i / 64) 0 (omega arith))
     (bit_at (take 64 part) (i % 64)
     ∙ rw (get_or-take 64 part (i % 64) false (omega arith), get_or-drop (64 * (i / 64)) flags (i % 64) false, place))
-
-pub length-side_flags : (side : List ℕ) (n : ℕ) → length (side_flags side n) ≡ n
-unfolding side_flags
-length-side_flags side n = length-tabulate (λ i. is_in i side) n
 
 pub flagged-none : (flags : List Bool) → flagged [] flags ≡ flags
 unfolding flagged is_in

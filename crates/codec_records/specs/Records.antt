@@ -1,5 +1,5 @@
 -- The records of a family.
-use Rattle.std.specs.Prelude.{false, cond, List, map, ◌≡◌, ℕ, ◌≤◌, ◌<◌, ltb, pos, length, get_or, take, drop}
+use Rattle.std.specs.Prelude.{false, cond, List, map, ◌≡◌, ℕ, ◌<◌, ltb, pos, length, get_or, take, drop}
 use Rattle.codec_records.specs.declared.columns.Columns.{Columns}
 use Rattle.codec_records.specs.declared.family.Family.{Family}
 use Rattle.codec_records.specs.declared.records.Record.{Record}

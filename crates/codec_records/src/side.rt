@@ -5,6 +5,7 @@ ghost use Rattle.codec_records.specs.Side.{kept};
 use std::marker::Model;
 
 // A name has one record on each side, so that half of a family's 512 records have room.
+// That they are below a family's number stays a clause: a side does not know its family.
 #[derive(Drop)]
 pub struct Side {
     records: [usize; 256],

@@ -8,24 +8,20 @@ use caller::fates::first_fate;
 pub fn settle(fates: &mut [u8], fate: u8)
     ensures { fates.new ≡ settled fate fates.old }
 {
-    let mut i = 0;
-    while i < fates.len() {
-        fates[i] = first_fate(fate, fates[i]);
-        i += 1;
+    for own in fates.iter_mut() {
+        *own = first_fate(fate, *own);
     }
 }
 
 // How many records have each fate, 0 to 13.
+#[tactic(auto, unfolding(lists::specs::Tabulate::tabulate, lists::specs::Total::total, crate::specs::Fates::with_fate))]
 pub fn count_fates(fates: &[u8]) -> [u64; 14]
     requires { AreFates fates.now }
     ensures { result ≡ fate_counts fates.now }
 {
     let mut counts = [0u64; 14];
-    let mut i = 0;
-    while i < fates.len() {
-        let fate = fates[i] as usize;
-        counts[fate] += 1;
-        i += 1;
+    for &fate in fates {
+        counts[fate as usize] += 1;
     }
     counts
 }

@@ -1,6 +1,5 @@
 -- Document 02, Req 01: a ledger that is refused as the run's and the sample's are. Only inner contracts need it.
-use Rattle.std.specs.Prelude.{false, ◌≡◌, ℕ, replicate}
-use Rattle.caller.specs.Refusals.{is_refusal}
+use Rattle.std.specs.Prelude.{◌≡◌, ℕ, replicate, Ok}
 use Rattle.codec_stats.specs.Ledger.{fresh, of_counts}
 use Rattle.codec_stats.specs.declared.ledger.Ledger.{Ledger}
 use Rattle.codec_samples.specs.SampledCall.{of_books}
@@ -25,4 +24,4 @@ with_families n =
 -- 01's refusals 10 and 11, read on it alone, are those of both; a fresh one where neither refuses
 pub record Decides (run own deciding : Ledger) : Type 0 where
   pub refuses : of_counts deciding ≡ of_books run own
-  pub else_fresh : is_refusal (of_books run own) ≡ false → deciding ≡ fresh
+  pub else_fresh : of_books run own ≡ Ok tt → deciding ≡ fresh

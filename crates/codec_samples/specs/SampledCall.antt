@@ -1,7 +1,9 @@
 -- Document 02, Req 01: a family call names its sample; its refusals, and what it counts.
-use Rattle.std.specs.Prelude.{cond, ℕ, ltb, set}
-use Rattle.caller.specs.Refusals.{is_refusal, or_else, refused_if}
+use Rattle.std.specs.Prelude.{cond, ℕ, ltb, set, Result, Ok, Err, is_err}
+use Rattle.std.specs.Result.{result_and}
+use Rattle.caller.specs.declared.refusal.LedgerRefusal.TheVariants.{TooLarge, Full}
 use Rattle.caller.specs.declared.refusal.Refusal.{Refusal}
+use Rattle.caller.specs.declared.refusal.Refusal.TheVariants.{Ledger, NoSuchSample}
 use Rattle.codec_stats.specs.Ledger.{Counts, too_large, full, plus}
 use Rattle.codec_family.specs.Call.{Call}
 use Rattle.codec_family.specs.Counted.{counted}
@@ -21,19 +23,18 @@ abbrev pub own_counts : SampledCall → Books → Counts
 own_counts c books = sample_of c.sample books.samples
 
 -- '01's refusals 10 and 11 look at the run's ledger and then at the sample's'; lowest number first
-unfoldable pub of_books : (run own : Counts) → Refusal
+unfoldable pub of_books : (run own : Counts) → Result Unit Refusal
 of_books run own =
-    or_else (refused_if (too_large run) 10 0)
-    (or_else (refused_if (too_large own) 10 0)
-    (or_else (refused_if (full run) 11 0)
-    (refused_if (full own) 11 0)))
+    cond (too_large run) (Err (Ledger TooLarge))
+    (cond (too_large own) (Err (Ledger TooLarge))
+    (cond (full run) (Err (Ledger Full))
+    (cond (full own) (Err (Ledger Full)) (Ok tt))))
 
 -- '20 sample number above 95, tested before all others'; then 1 to 9 as they are, then 10 and 11
-unfoldable pub sampled_refusal : SampledCall → Books → Refusal
+unfoldable pub sampled_refusal : SampledCall → Books → Result Unit Refusal
 sampled_refusal c books =
-    or_else (refused_if (ltb 95 c.sample) 20 0)
-    (or_else (of_call c.call)
-    (of_books books.run (own_counts c books)))
+    cond (ltb 95 c.sample) (Err NoSuchSample)
+    (result_and (of_call c.call) (of_books books.run (own_counts c books)))
 
 -- 'counts each call for the run and for its own sample': the same counts to both, and the other 95 stay
 unfoldable pub counted_in : SampledCall → Books → Books
@@ -45,4 +46,4 @@ counted_in c books =
 
 -- 'A call that must be refused, 10 and 11 read on the history's counts', of both, 'changes none'
 unfoldable pub after_sampled : SampledCall → Books → Books
-after_sampled c books = cond (is_refusal (sampled_refusal c books)) books (counted_in c books)
+after_sampled c books = cond (is_err (sampled_refusal c books)) books (counted_in c books)

@@ -10,7 +10,7 @@ use Rattle.codec_select.specs.Alignments.{Alignments, EnteredAdmissible}
 use Rattle.codec_pairing.specs.Pairing.{is_entered}
 use Rattle.codec_pairing.specs.Refusals.{Reads, reads, first_refusal}
 use Rattle.codec_select.specs.Steps.{fates_of}
-use Rattle.caller.specs.declared.refusal.Refusal.TheVariants.{NoRefusal}
+use Rattle.std.specs.Prelude.{Ok}
 use Rattle.codec_select.proofs.Sound.{entered_sound, sound-alignment}
 use Rattle.codec_pairing.proofs.Undecided.{fates_entered}
 
@@ -25,7 +25,7 @@ module _ (a : Alignments) (names : List ℕ) (verdicts : List Bool) (minimum rec
   abbrev given : Reads
   given = reads (fates_of a.flags names verdicts) a.clipped a.positions a.starts a.counts a.ops
 
-  pub entered_admissible : Alike a → first_refusal minimum records given ≡ NoRefusal → EnteredAdmissible a names verdicts
+  pub entered_admissible : Alike a → first_refusal minimum records given ≡ Ok tt → EnteredAdmissible a names verdicts
   entered_admissible alike none r h entered =
       let told = ap (λ (column : List Bool). get_or column r false) (fates_entered a.flags names verdicts (length a.flags)) ∙ get_d_tabulate (is_entered a.flags names verdicts) (length a.flags) r false h ∙ entered in
       let in-clipped : r < length a.clipped = omega (arith, h, alike.as_many_clipped) in

@@ -1,12 +1,12 @@
 -- A side of admissible records stays one through steps 4 and 5.
 use mathlib.Core.Bool.{Bool, true, false, cond, ◌&&◌}
-use mathlib.Core.List.{List, []}
-use mathlib.Core.Path.{◌≡◌, refl, sym, ◌∙◌, ap}
+use mathlib.Core.List.{List}
+use mathlib.Core.Path.{◌≡◌, refl}
 use Prim.Native.Nat.{ℕ, ◌≤◌, ◌<◌}
 use native.Mathlib.Omega.{arith}
 use lib.Dec.{eqb}
 use lib.IntN.{ℤ}
-use lib.ListN.{length, take, length-take}
+use lib.ListN.{length}
 use Rattle.caller.specs.Reasons.{number_of}
 use Rattle.caller.specs.declared.reason.RejectionReason.TheVariants.{Downsampled}
 use Rattle.codec_select.specs.Alignments.{Alignments, Admissible, Formed, EnteredAdmissible}

@@ -9,7 +9,7 @@ use lib.Dec.{eqb}
 use lib.IntN.{ℤ}
 use lib.ListN.{length, length-map}
 use Rattle.std.proofs.lemmas.Bool.{cond_both, or_parts}
-use Rattle.caller.specs.declared.refusal.Refusal.TheVariants.{NoRefusal}
+use Rattle.std.specs.Prelude.{Ok}
 use Rattle.codec_window.proofs.Lengths.{kept-measured}
 use Rattle.codec_window.specs.Alignment.{Alignment, Admitted}
 use Rattle.codec_window.specs.Window.{overlap}
@@ -37,7 +37,7 @@ abbrev pub Measured : Decision → Type 0
 Measured (decisions.Kept start end length r1 r2) = (1 ≤ length) × (length ≤ 2047)
 Measured decisions.Empty = Unit {0}
 Measured (decisions.Rejected reason) = Unit {0}
-Measured (decisions.Refused number given) = Unit {0}
+Measured (decisions.Refused refusal) = Unit {0}
 
 module _ (o : Options) (ranks : List ℤ) (a : Alignments) where
   longest_admitted : (side : List ℕ) → Formed a side → Admitted (alignment_of a (longest_record a side))
@@ -89,7 +89,7 @@ records_alike records ops =
       as_many_counts = length-map records Record.count ∙ size;
     }
 
-module _ (o : Options) (records : List Record) (ops : List ℕ) (none : refusal_of o (length records) (fates_of (column Record.flags records) (column Record.name records) (column Record.verdict records)) (alignments_of records ops) ≡ NoRefusal) where
+module _ (o : Options) (records : List Record) (ops : List ℕ) (none : refusal_of o (length records) (fates_of (column Record.flags records) (column Record.name records) (column Record.verdict records)) (alignments_of records ops) ≡ Ok tt) where
   pub few_records : length records ≤ 512
   few_records =
       let a = alignments_of records ops in

@@ -12,7 +12,6 @@ use Rattle.std.proofs.lemmas.Bool.{cond_both}
 use Rattle.lists.specs.Member.{is_in}
 use Rattle.lists.proofs.Tabulate.{length-tabulate, get_d_tabulate}
 use Rattle.caller.specs.Fates.{undecided_number}
-use Rattle.caller.specs.declared.refusal.Refusal.TheVariants.{NoRefusal}
 use Rattle.raw_bam.specs.Flags.{paired_flag, has_flag}
 use Rattle.codec_window.specs.Window.{overlap}
 use Rattle.std.proofs.Common.{Result, Ok, Err}
@@ -42,7 +41,7 @@ abbrev pub Ends : Decision → ℕ → List ℕ → Type 0
 Ends (decisions.Kept start end length r1 r2) n fates = Unit {0}
 Ends decisions.Empty n fates = (i : ℕ) → i < n → 1 ≤ get_or fates i 0
 Ends (decisions.Rejected reason) n fates = Unit {0}
-Ends (decisions.Refused number given) n fates = ⊥
+Ends (decisions.Refused refusal) n fates = ⊥
 
 pub record Settled (n : ℕ) (outcome : Course) : Type 0 where
   pub so_far : SoFar n outcome.fates
@@ -126,7 +125,7 @@ module _ (o : Options) (ranks : List ℤ) (a : Alignments) (n : ℕ) where
 
 -- each record has a fate of at most 11, and an empty family leaves none undecided
 pub selection-settled : (o : Options) (count : ℕ) (records : List Record) (ops : List ℕ)
-    → refusal_of o count (fates_of (column Record.flags records) (column Record.name records) (column Record.verdict records)) (alignments_of records ops) ≡ NoRefusal
+    → refusal_of o count (fates_of (column Record.flags records) (column Record.name records) (column Record.verdict records)) (alignments_of records ops) ≡ Ok tt
     → Settled (length records) (course_of o count records ops)
 unfolding selected
 selection-settled o count records ops none =

@@ -1,5 +1,5 @@
 -- What holds of an entered record where nothing is refused.
-use mathlib.Core.Bool.{Bool, true, false, cond, not, ◌||◌}
+use mathlib.Core.Bool.{Bool, true, false, not, ◌||◌}
 use mathlib.Core.List.{List, [], ◌∷◌}
 use mathlib.Core.Path.{◌≡◌, refl}
 use Prim.Native.Nat.{ℕ, ◌+◌, ◌≤◌, ◌<◌}
@@ -7,16 +7,16 @@ use native.Mathlib.Omega.{arith}
 use borrow.Author.Tests.{ltb-false, eqb-true, eqb-false, not-false}
 use lib.Dec.{eqb, ltb}
 use lib.ListN.{length, get_or, length-take}
-use Rattle.std.specs.Prelude.{Option, None, Some, slice_get}
+use Rattle.std.specs.Prelude.{Option, None, Some, Ok, slice_get}
 use Rattle.std.specs.List.{list_all}
 use Rattle.std.proofs.lemmas.Bool.{or_parts, false_from_ne_true}
 use Rattle.lists.specs.Numbers.{numbers_from}
 use Rattle.lists.proofs.Numbers.{numbers_has}
 use Rattle.raw_bam.specs.Cigar.{is_operation, read_length, reference_length}
 use Rattle.codec_pairing.specs.declared.refusal.Read.{Read}
-use Rattle.caller.specs.Refusals.{or_else}
 use Rattle.caller.specs.declared.refusal.Refusal.{Refusal}
-use Rattle.caller.specs.declared.refusal.Refusal.TheVariants.{NoRefusal, Refused}
+use Rattle.caller.specs.declared.refusal.Refusal.TheVariants.{MinimumTooLong, TooManyRecords, BadPart, BadOperation, BadLength, BadPlace}
+use Rattle.caller.proofs.Refusals.{passed, both_passed}
 use Rattle.codec_pairing.specs.Refusals.{Reads, ops_of, bad_part, bad_words, bad_bases, bad_place, has_bad_part, has_bad_words, has_bad_bases, has_bad_place, read_of, gives, lowest_bad, refused_at, refusal_of_records, first_refusal}
 use Rattle.codec_window.specs.Alignment.{alignment_of, Admitted}
 
@@ -50,29 +50,21 @@ sound ops r good_part good_words good_bases good_place =
       narrow = ltb-false _ _ place.1;
     }
 
-passed : (test : Bool) (number value : ℕ) (next : Refusal) → cond test (Refused number value) next ≡ NoRefusal → (test ≡ false) × (next ≡ NoRefusal)
-passed true number value next e = let apart : ◌≡◌ {A = ℕ} 0 1 = cc in absurd (omega arith)
-passed false number value next e = (refl, e)
-
-both : (first next : Refusal) → or_else first next ≡ NoRefusal → (first ≡ NoRefusal) × (next ≡ NoRefusal)
-both NoRefusal next e = (refl, e)
-both (Refused number i) next e = let apart : ◌≡◌ {A = ℕ} 0 1 = cc in absurd (omega arith)
-
-none_found : (number : ℕ) (found : Option ℕ) → refused_at number found ≡ NoRefusal → found ≡ None
-none_found number None e = refl
-none_found number (Some i) e = let apart : ◌≡◌ {A = ℕ} 0 1 = cc in absurd (omega arith)
+none_found : (cause : ℕ → Refusal) (found : Option ℕ) → refused_at cause found ≡ Ok tt → found ≡ None
+none_found cause None e = refl
+none_found cause (Some i) e = cc
 
 none-listed : (records : List ℕ) → slice_get records 0 ≡ None → length records ≡ 0
 none-listed [] e = refl
 none-listed (i ∷ later) e = cc
 
-module _ (minimum records : ℕ) (f : Reads) (none : first_refusal minimum records f ≡ NoRefusal) where
+module _ (minimum records : ℕ) (f : Reads) (none : first_refusal minimum records f ≡ Ok tt) where
   -- refusals 1 and 2
-  pub within_limits_lem : (minimum ≤ 2147483647) × (records ≤ 512) × (length f.ops ≤ 8192) × (refusal_of_records f ≡ NoRefusal)
+  pub within_limits_lem : (minimum ≤ 2147483647) × (records ≤ 512) × (length f.ops ≤ 8192) × (refusal_of_records f ≡ Ok tt)
   unfolding first_refusal
   within_limits_lem =
-      let one = passed (ltb 2147483647 minimum) 1 0 _ none in
-      let two = passed (ltb 512 records || ltb 8192 (length f.ops)) 2 0 (refusal_of_records f) one.1 in
+      let one = passed (ltb 2147483647 minimum) MinimumTooLong _ none in
+      let two = passed (ltb 512 records || ltb 8192 (length f.ops)) TooManyRecords (refusal_of_records f) one.1 in
       let sizes = or_parts (ltb 512 records) (ltb 8192 (length f.ops)) two.0 in
       (ltb-false _ _ one.0, ltb-false _ _ sizes.0, ltb-false _ _ sizes.1, two.1)
 
@@ -80,10 +72,10 @@ module _ (minimum records : ℕ) (f : Reads) (none : first_refusal minimum recor
   none_bad : (lowest_bad (has_bad_part f.ops) f ≡ None) × (lowest_bad (has_bad_words f.ops) f ≡ None) × (lowest_bad (has_bad_bases f.ops) f ≡ None) × (lowest_bad (has_bad_place f.ops) f ≡ None)
   unfolding refusal_of_records
   none_bad =
-      let part = both (refused_at 3 (lowest_bad (has_bad_part f.ops) f)) _ within_limits_lem.3 in
-      let words = both (refused_at 4 (lowest_bad (has_bad_words f.ops) f)) _ part.1 in
-      let bases = both (refused_at 5 (lowest_bad (has_bad_bases f.ops) f)) _ words.1 in
-      (none_found 3 _ part.0, none_found 4 _ words.0, none_found 5 _ bases.0, none_found 6 _ bases.1)
+      let part = both_passed (refused_at BadPart (lowest_bad (has_bad_part f.ops) f)) _ within_limits_lem.3 in
+      let words = both_passed (refused_at BadOperation (lowest_bad (has_bad_words f.ops) f)) _ part.1 in
+      let bases = both_passed (refused_at BadLength (lowest_bad (has_bad_bases f.ops) f)) _ words.1 in
+      (none_found BadPart _ part.0, none_found BadOperation _ words.0, none_found BadLength _ bases.0, none_found BadPlace _ bases.1)
 
   good : (bad : Read → Bool) → lowest_bad bad f ≡ None → (i : ℕ) → i < length f.clipped → get_or f.entered i false ≡ true → bad (read_of f i) ≡ false
   unfolding lowest_bad gives

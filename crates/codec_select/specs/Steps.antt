@@ -14,7 +14,6 @@ use Rattle.codec_window.specs.Window.{alignment, overlap}
 use Rattle.codec_records.specs.declared.options.Options.{Options}
 use Rattle.codec_select.specs.declared.overlapping.Longest.{Longest}
 use Rattle.caller.specs.declared.refusal.Refusal.{Refusal}
-use Rattle.caller.specs.declared.refusal.Refusal.TheVariants as refusals
 use Rattle.codec_select.specs.declared.selection.Decision.{Decision}
 use Rattle.codec_select.specs.declared.selection.Decision.TheVariants as decisions
 use Rattle.codec_records.specs.declared.side.Sides.{Sides}
@@ -78,7 +77,7 @@ abbrev pub is_kept : Decision → Bool
 is_kept (decisions.Kept start end length r1_negative r2_negative) = true
 is_kept decisions.Empty = false
 is_kept (decisions.Rejected reason) = false
-is_kept (decisions.Refused number given) = false
+is_kept (decisions.Refused refusal) = false
 
 -- a family that is kept keeps the records of its sides, any other none
 abbrev pub concluded : Decision → List ℕ → List ℕ → List ℕ → Course
@@ -102,16 +101,16 @@ from_sides o ranks a r1 r2 fates =
     (from_cap o ranks a (grouped a r1) (grouped a r2) (with_minority a r2 (with_minority a r1 fates))))
 
 -- a refusal comes before all steps
-abbrev pub unless_refused : Refusal → List ℕ → Course → Course
-unless_refused refusals.NoRefusal fates outcome = outcome
-unless_refused (refusals.Refused number given) fates outcome = ended (decisions.Refused number given) fates
+abbrev pub unless_refused : Result Unit Refusal → List ℕ → Course → Course
+unless_refused (Ok done) fates outcome = outcome
+unless_refused (Err refusal) fates outcome = ended (decisions.Refused refusal) fates
 
 -- the fates after steps 1 and 2
 abbrev pub fates_of : List ℕ → List ℕ → List Bool → List ℕ
 fates_of flags names verdicts = tabulate (fate_of flags names verdicts) (length flags)
 
 -- refusals 1 to 6 of a number of records
-abbrev pub refusal_of : Options → ℕ → List ℕ → Alignments → Refusal
+abbrev pub refusal_of : Options → ℕ → List ℕ → Alignments → Result Unit Refusal
 refusal_of o records fates a =
     first_refusal o.min_duplex_length records (reads fates a.clipped a.positions a.starts a.counts a.ops)
 

@@ -7,7 +7,6 @@ ghost use Rattle.codec_select.specs.Steps.{CourseIn, cap_is_zero, too_few, is_ke
 use crate::overlapping::overlap_of_sides;
 use crate::selection::Decision;
 use caller::reason::RejectionReason;
-use caller::refusal::Refusal;
 use codec_pairing::pairing::{write_fates, write_sides};
 use codec_pairing::refusal::first_refusal;
 use codec_records::family::Family;
@@ -36,7 +35,7 @@ fn has_too_few_reads(options: Options, sides: &Sides) -> bool
     (sides.r1.len() as u64) < minimum || (sides.r2.len() as u64) < minimum || is_cap_zero
 }
 
-// The end of step 4, and steps 5 to 7.
+// The end of step 4, and steps 5 to 7. The fates stand beside the family: it is lent to be read, and they are written.
 fn from_cap(family: &Family, options: Options, fates: &mut [u8], sides: &mut Sides) -> Decision
     requires formed { Formed (alignments_in family.now) sides.old.r1 }
     requires formed_2 { Formed (alignments_in family.now) sides.old.r2 }
@@ -88,9 +87,8 @@ pub fn select_family(
     ensures { CourseIn (selected options family.now.given family.now.names.now family.now.verdicts.now family.now.ranks.now (alignments_in family.now)) result fates.new sides.new }
 {
     write_fates(family, fates);
-    let refusal = first_refusal(options.min_duplex_length, family, fates);
-    if let Refusal::Refused(number, given) = refusal {
-        return conclude(Decision::Refused(number, given), sides);
+    if let Err(refusal) = first_refusal(options.min_duplex_length, family, fates) {
+        return conclude(Decision::Refused(refusal), sides);
     }
     from_sides(family, options, fates, sides)
 }

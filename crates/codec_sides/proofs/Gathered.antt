@@ -7,7 +7,7 @@ use lib.ListN.{length, get_or, take, length-map}
 use Rattle.std.proofs.lemmas.List.{get_or-map}
 use Rattle.lists.specs.Written.{written}
 use Rattle.lists.proofs.Written.{take_count}
-use Rattle.raw_bam.specs.Simplified.{joined, simplified}
+use Rattle.raw_bam.specs.Simplified.{joined_by, simplified}
 use Rattle.vanilla_caller.specs.Side.{HasRecord, list_of}
 use Rattle.codec_sides.specs.Side.{HaveOperations, gathered}
 
@@ -22,7 +22,7 @@ module _ {A : Type 0} (d : A) (column : List A) (side : List ℕ) where
 module _ (ops starts counts : List ℕ) (is_reverse : List Bool) where
   -- the list of the record at place k of the side
   pub list_gathered : (side : List ℕ) (k : ℕ) → list_of ops (gathered 0 starts side) (gathered 0 counts side) (gathered false is_reverse side) k ≡ get_or (map (list_of ops starts counts is_reverse) side) k []
-  unfolding list_of simplified joined
+  unfolding list_of simplified joined_by
   list_gathered [] k = refl
   list_gathered (r ∷ side) zero = refl
   list_gathered (r ∷ side) (suc k) = list_gathered side k

@@ -1,5 +1,5 @@
 -- One side of a family, a list of record numbers, in document 01's steps 4 to 6, 'A family'.
-use Rattle.std.specs.Prelude.{Bool, cond, not, List, [], ◌∷◌, map, ◌≡◌, ℕ, suc, ◌+◌, ◌≤◌, ◌<◌, max, eqb, ℤ, pos, length, get_or, take}
+use Rattle.std.specs.Prelude.{Bool, cond, not, List, [], ◌∷◌, map, ℕ, suc, ◌+◌, ◌≤◌, ◌<◌, max, eqb, ℤ, pos, length, get_or}
 use Rattle.codec_records.specs.Side.{kept}
 use Rattle.lists.specs.Tabulate.{tabulate}
 use Rattle.caller.specs.Fates.{undecided_number, first_fate}

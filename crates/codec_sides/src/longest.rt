@@ -1,6 +1,5 @@
 // Step 6: the longest record of a side.
 ghost use Rattle.std.specs.Prelude.{◌≡◌, ◌<◌, length};
-ghost use Rattle.codec_records.specs.Records.{Below};
 ghost use Rattle.codec_sides.specs.Family.{HasOperations, HaveOperations, reference_bases_of, longest_of};
 
 use codec_records::family::Family;
@@ -8,17 +7,15 @@ use raw_bam::cigar::reference_length_from_cigar;
 
 #[tactic(auto, unfolding(crate::specs::Side::reference_bases_of))]
 fn reference_bases_of(family: &Family, record: usize) -> u64
-    requires in_bounds { «record» < length family.now.flags.now }
-    requires operations { HasOperations family.now «record» }
+    requires { HasOperations family.now «record» }
     ensures { result ≡ reference_bases_of family.now «record» }
 {
     reference_length_from_cigar(family.operations(record))
 }
 
-// The place of the longest in the side: of records that are equally long, the earliest.
+// The place of the longest in the side: of records that are equally long, the earliest (max_by_key takes the last).
 pub fn longest_of(family: &Family, side: &[usize]) -> usize
     requires have_operations { HaveOperations family.now side.now }
-    requires below { Below side.now (length family.now.flags.now) }
     requires side_nonzero { 0 < length side.now }
     ensures value { result ≡ longest_of family.now side.now }
     ensures upper_bound { result < length side.now }

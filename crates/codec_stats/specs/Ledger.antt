@@ -3,14 +3,15 @@ use Rattle.std.specs.Prelude.{Result, Ok, Err, Bool, false, cond, not, ◌||◌,
 use Rattle.std.specs.Float.{binary64}
 use Rattle.std.specs.Float.Ieee.{div, of_bits, of_int}
 use Rattle.std.specs.List.{list_all}
+use Rattle.std.specs.Result.{result_map_both}
 use Rattle.lists.specs.Tabulate.{tabulate}
 use Rattle.lists.specs.Total.{total}
-use Rattle.caller.specs.Refusals.{or_else, refused_if}
+use Rattle.caller.specs.declared.refusal.LedgerRefusal.{LedgerRefusal}
+use Rattle.caller.specs.declared.refusal.LedgerRefusal.TheVariants.{TooLarge, Full}
 use Rattle.caller.specs.declared.refusal.Refusal.{Refusal}
+use Rattle.caller.specs.declared.refusal.Refusal.TheVariants as refusals
 use Rattle.codec_stats.specs.declared.ledger.Ledger.{Ledger}
 use Rattle.codec_stats.specs.declared.rates.LedgerRates.{LedgerRates}
-use Rattle.codec_stats.specs.declared.refusals.LedgerRefusal.{LedgerRefusal}
-use Rattle.codec_stats.specs.declared.refusals.LedgerRefusal.TheVariants.{TooLarge, Full}
 
 -- the ledger's 20 counts, which a history keeps too
 abbrev pub Counts : Type 0
@@ -85,18 +86,13 @@ too_large l = ltb (2 ^ 28) l.families || not (list_all within_limit (other_count
 unfoldable pub full : Counts → Bool
 full l = eqb l.families (2 ^ 28)
 
--- the refusals' numbers
-abbrev pub refusal_number : LedgerRefusal → ℕ
-refusal_number TooLarge = 10
-refusal_number Full = 11
-
--- 10 goes before 11
-abbrev pub checked : Counts → Result (Unit {0}) LedgerRefusal
+-- 10, then 11, read on the counts given
+abbrev pub checked : Counts → Result Unit LedgerRefusal
 checked l = cond (too_large l) (Err TooLarge) (cond (full l) (Err Full) (Ok tt))
 
--- 10, then 11, read on the counts given; with each goes 0
-unfoldable pub of_counts : Counts → Refusal
-of_counts l = or_else (refused_if (too_large l) 10 0) (refused_if (full l) 11 0)
+-- the same, as refusals of a call
+unfoldable pub of_counts : Counts → Result Unit Refusal
+of_counts l = result_map_both (λ done. done) refusals.Ledger (checked l)
 
 -- counts, and what is added to each
 unfoldable pub plus : Counts → Counts → Counts

@@ -3,7 +3,8 @@ ghost use Rattle.std.specs.Prelude.{false, ◌≡◌, ◌+◌, ◌*◌, ◌<◌,
 ghost use Rattle.codec_stats.specs.Ledger as defs;
 
 use crate::ledger::Ledger;
-use crate::refusals::{LedgerRefusal, is_too_large};
+use crate::refusals::is_too_large;
+use caller::refusal::LedgerRefusal;
 
 #[derive(Clone, Copy, Debug, PartialEq)]
 pub struct LedgerRates {
@@ -12,7 +13,8 @@ pub struct LedgerRates {
     pub millionths: u64,
 }
 
-// Ten numbers of at most 2^41, so the sum has at most 45 bits.
+// Ten numbers of at most 2^41, so the sum has at most 45 bits. That stays a clause: a type for it would be made at each call of a ledger that a
+// host hands in.
 #[tactic(auto, using(crate::proofs::Small::reasons_fit, crate::proofs::Small::filtered_is_sum))]
 pub fn filtered(ledger: Ledger) -> u64
     requires { defs.too_large ledger ≡ false }

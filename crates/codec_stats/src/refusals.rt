@@ -1,35 +1,15 @@
 // Refusals 10 and 11, read on a ledger's counts.
 ghost use Rattle.std.specs.Prelude.{◌≡◌};
 ghost use Rattle.std.specs.List.{list_all};
-ghost use Rattle.codec_stats.specs.Ledger.{within_limit, too_large, full, refusal_number, checked, of_counts};
+ghost use Rattle.codec_stats.specs.Ledger.{within_limit, too_large, full, checked};
 
 use crate::ledger::{COUNTS, Ledger};
-use caller::refusal::Refusal;
+use caller::refusal::LedgerRefusal;
 
 // The largest number of families, and of any other count.
 pub const FAMILIES_LIMIT: u64 = 1 << 28;
 
 pub const COUNTER_LIMIT: u64 = 1 << 41;
-
-// Why a ledger is not accepted.
-#[derive(Clone, Copy, Debug, PartialEq, Eq, Hash)]
-pub enum LedgerRefusal {
-    // A count is above its limit.
-    TooLarge,
-    // No further family can be counted.
-    Full,
-}
-
-impl LedgerRefusal {
-    pub fn number(self) -> u32
-        ensures { result ≡ refusal_number self }
-    {
-        match self {
-            LedgerRefusal::TooLarge => 10,
-            LedgerRefusal::Full => 11,
-        }
-    }
-}
 
 fn are_within(counts: &[u64]) -> bool
     ensures { result ≡ list_all within_limit counts.now }
@@ -63,13 +43,4 @@ pub fn check(ledger: Ledger) -> Result<(), LedgerRefusal>
         return Err(LedgerRefusal::Full);
     }
     Ok(())
-}
-
-pub fn ledger_refusal(ledger: Ledger) -> Refusal
-    ensures { result ≡ of_counts ledger }
-{
-    match check(ledger) {
-        Ok(()) => Refusal::NoRefusal,
-        Err(refusal) => Refusal::Refused(refusal.number(), 0),
-    }
 }

@@ -3,7 +3,7 @@ ghost use Rattle.std.specs.Prelude.{◌≡◌};
 ghost use Rattle.codec_stats.specs.Reported.{reported_rates};
 
 use crate::rates::LedgerRates;
-use crate::refusals::LedgerRefusal;
+use caller::refusal::LedgerRefusal;
 
 // A number, since no enum crosses the C interface: kind 0 has the three figures, 1 a refusal's number and what goes with it.
 #[repr(C)]

@@ -1,20 +1,17 @@
 -- Laws of a strand's geometry: what turning round twice, padding and the outer mask do.
 use mathlib.Core.Bool.{Bool, true, false, cond}
-use mathlib.Core.List.{List, [], ◌∷◌, ◌++◌, append-nil, map, reverse, reverse-reverse}
-use mathlib.Core.Path.{◌≡◌, refl, sym, ◌∙◌, ap}
+use mathlib.Core.List.{List, [], ◌∷◌, ◌++◌, append-nil, map, reverse-reverse}
+use mathlib.Core.Path.{◌≡◌, refl, ◌∙◌, ap}
 use Prim.Native.Nat.{ℕ, ◌-◌, ◌≤◌, ◌<◌, zero-le}
 use native.Mathlib.Omega.{arith}
 use borrow.Author.Tests.{lt-ltb, le-ltb}
-use native.Mathlib.Nat.{le_refl}
-use lib.ListN.{length, take, drop, replicate, length-map, length-replicate, length-reverse, take-append-drop}
-use lib.Seq.{take_at, take-length, length-take-le, drop_at}
-use Rattle.lists.specs.Written.{written}
+use lib.ListN.{length, take, drop, replicate, length-replicate}
+use lib.Seq.{take_at, take-length, drop_at}
 use Rattle.lists.proofs.Reverse.{map-reverse}
 use Rattle.lists.proofs.Tabulate.{length-tabulate}
-use Rattle.lists.proofs.Written.{take-written, written_again}
 use Rattle.codec_duplex.specs.Columns.{Strand, strand}
 use Rattle.codec_strands.specs.Masks.{outermost, masked_at, masked}
-use Rattle.codec_strands.specs.Strands.{complement, reverse_complement, padded, first_places, written_strand, StrandRoom}
+use Rattle.codec_strands.specs.Strands.{complement, reverse_complement, padded}
 use Rattle.codec_strands.specs.declared.mask.Masks.{Masks}
 use Rattle.codec_strands.proofs.Complement.{complement_twice}
 
@@ -30,29 +27,6 @@ reverse_complement_twice s =
 pub same_columns : {bases bases' quals quals' depths depths' errors errors' : List ℕ} → bases ≡ bases' → quals ≡ quals' → depths ≡ depths' → errors ≡ errors'
     → strand bases quals depths errors ≡ strand bases' quals' depths' errors'
 same_columns b q d e = rw (b, q, d, e)
-
--- bases that are reversed in place and then complemented in place
-pub reversed_then_complemented : (n : ℕ) (old mid after : List ℕ) → n ≤ length old
-    → mid ≡ written (reverse (take n old)) old
-    → after ≡ written (map complement (take n mid)) mid
-    → after ≡ written (reverse (map complement (take n old))) old
-reversed_then_complemented n old mid after room first second =
-    let turned = reverse (take n old) in
-    let size : length turned ≡ n = length-reverse (take n old) ∙ length-take-le n old room in
-    let same : length turned ≤ length (map complement turned) = rw (length-map turned complement) (le_refl (length turned)) in
-    second ∙ rw (first, take-written turned old n size, written_again turned (map complement turned) old same, map-reverse complement (take n old))
-
--- what is written over its own first places is as it was
-written-take : {A : Type 0} (n : ℕ) (xs : List A) → n ≤ length xs → xs ≡ written (take n xs) xs
-written-take n xs h = rw (length-take-le n xs h) (sym (take-append-drop n xs))
-
-pub written_first : (n : ℕ) (s : Strand) → StrandRoom n s → s ≡ written_strand (first_places n s) s
-written_first n s room =
-    same_columns
-    (written-take n s.bases room.bases)
-    (written-take n s.quals room.quals)
-    (written-take n s.depths room.depths)
-    (written-take n s.errors room.errors)
 
 module _ {A : Type 0} (pad : A) (n : ℕ) (xs : List A) where
   -- padding keeps what was there

@@ -1,7 +1,8 @@
 -- Document 01, 'Padding, orientation, masks': reverse complement and padding of a strand.
-use Rattle.std.specs.Prelude.{Bool, true, cond, List, ◌++◌, map, reverse, ℕ, ◌-◌, ◌≤◌, eqb, length, take, replicate}
+use Rattle.std.specs.Prelude.{Bool, true, cond, List, ◌++◌, map, reverse, ℕ, ◌-◌, ◌≤◌, eqb, length, replicate}
 use Rattle.lists.specs.Written.{written}
 use Rattle.codec_duplex.specs.Columns.{Strand, strand}
+use Rattle.codec_strands.specs.declared.layout.Layout.{Layout}
 
 -- exchanges A with T and C with G, keeps N and n (and every other byte, which no strand has)
 abbrev pub complement : ℕ → ℕ
@@ -32,8 +33,15 @@ abbrev pub padded_strand : (left : Bool) (n : ℕ) → Strand → Strand
 padded_strand left n s =
     strand (padded left 110 n s.bases) (padded left 0 n s.quals) (padded left 0 n s.depths) (padded left 0 n s.errors)
 
-abbrev pub first_places : ℕ → Strand → Strand
-first_places n s = strand (take n s.bases) (take n s.quals) (take n s.depths) (take n s.errors)
+-- a column, the bases and a strand as they lie among the duplex's places
+abbrev pub laid_column : {A : Type 0} → Layout → (pad : A) → List A → List A
+laid_column layout pad xs = padded layout.left pad layout.length (turned layout.reversed xs)
+
+abbrev pub laid_bases : Layout → List ℕ → List ℕ
+laid_bases layout bases = padded layout.left 110 layout.length (turned_bases layout.reversed bases)
+
+abbrev pub laid : Layout → Strand → Strand
+laid layout s = padded_strand layout.left layout.length (oriented layout.reversed s)
 
 -- the strand fills the first places of four columns
 abbrev pub written_strand : (s before : Strand) → Strand

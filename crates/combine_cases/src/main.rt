@@ -1,7 +1,7 @@
 // Document 01's cases of the disagreement limits, one line each.
 #![tactic(auto)]
 
-use codec_duplex::limits::{DuplexAnswer, judge};
+use codec_duplex::limits::{Disagreement, Limits};
 use codec_duplex::tally::DuplexBaseTally;
 use std::io;
 
@@ -25,11 +25,14 @@ fn main(rt: HostRuntime) -> io::Result<()> {
             bases,
             disagreements,
         };
-        let verdict = match judge(tally, max_disagreements, max_rate) {
-            DuplexAnswer::Duplex(_) => "passes",
-            DuplexAnswer::DisagreementCount(_) => "too many",
-            DuplexAnswer::DisagreementRate(_) => "rate too high",
-            DuplexAnswer::Refused => "refused",
+        let limits = Limits {
+            max_disagreements,
+            max_rate,
+        };
+        let verdict = match limits.judge(tally) {
+            Ok(_) => "passes",
+            Err(Disagreement::Count(_)) => "too many",
+            Err(Disagreement::Rate(_)) => "rate too high",
         };
         println!(&rt; "{name}: {verdict}")?;
     }

@@ -1,25 +1,23 @@
--- What a list that is not refused meets, and that such a list is not refused.
+-- What a list that is not refused meets, and that such an extended list is not refused.
 use mathlib.Core.Bool.{Bool, true, false, not, ◌||◌}
 use mathlib.Core.List.{List}
 use mathlib.Core.Path.{◌≡◌, refl}
 use Prim.Native.Nat.{ℕ, ◌≤◌}
-use native.Mathlib.Omega.{arith}
-use borrow.Author.Tests.{eqb-true, eq-eqb, ltb-false, le-ltb, not-false}
+use borrow.Author.Tests.{eqb-true, ltb-false, le-ltb, not-false}
 use lib.Dec.{eqb, ltb}
 use lib.ListN.{length}
 use Rattle.std.specs.List.{list_all}
+use Rattle.std.specs.Prelude.{Ok}
 use Rattle.std.proofs.lemmas.Bool.{or_parts}
-use Rattle.caller.specs.declared.refusal.Refusal.TheVariants.{NoRefusal}
-use Rattle.caller.specs.Refusals.{refused_if, or_else}
 use Rattle.raw_bam.specs.Cigar.{is_operation, read_length, reference_length}
-use Rattle.extended_cigar.specs.Refusals.{is_plain, bad_plain_words, bad_extended_words, past_plain_limits, past_extended_limits, small_output, refusal_there, refusal_back}
+use Rattle.extended_cigar.specs.Refusals.{is_plain, bad_plain_words, bad_extended_words, past_plain_limits, past_extended_limits, small_output, lowest, refusal_there, refusal_back}
 
 -- the three tests of a list that is not refused fail
-unrefused : (words limits output : Bool) → or_else (refused_if words 24 0) (or_else (refused_if limits 25 0) (refused_if output 26 0)) ≡ NoRefusal
+unrefused : (words limits output : Bool) → lowest words limits output ≡ Ok tt
     → (words ≡ false) × (limits ≡ false) × (output ≡ false)
-unrefused true limits output e = let z : ◌≡◌ {A = ℕ} 0 1 = cc in absurd (omega arith)
-unrefused false true output e = let z : ◌≡◌ {A = ℕ} 0 1 = cc in absurd (omega arith)
-unrefused false false true e = let z : ◌≡◌ {A = ℕ} 0 1 = cc in absurd (omega arith)
+unrefused true limits output e = cc
+unrefused false true output e = cc
+unrefused false false true e = cc
 unrefused false false false e = (refl, refl, refl)
 
 -- the way there: limits as listed, bases as many as consumed
@@ -31,7 +29,7 @@ pub record AcceptedThere (words read reference : List ℕ) (room : ℕ) : Type 0
   pub reference_bases_lem : length reference ≡ reference_length words
   pub output : 2048 ≤ room
 
-pub accepted_there : (words read reference : List ℕ) (room : ℕ) → refusal_there words read reference room ≡ NoRefusal → AcceptedThere words read reference room
+pub accepted_there : (words read reference : List ℕ) (room : ℕ) → refusal_there words read reference room ≡ Ok tt → AcceptedThere words read reference room
 unfolding refusal_there bad_plain_words past_plain_limits
 accepted_there words read reference room e =
     let tests = unrefused (not (list_all is_plain words)) (past_plain_limits words (length read) (length reference)) (small_output room) e in
@@ -47,18 +45,6 @@ accepted_there words read reference room e =
       output = ltb-false room 2048 tests.2;
     }
 
-pub there_accepts : (words read reference : List ℕ) (room : ℕ) → AcceptedThere words read reference room → refusal_there words read reference room ≡ NoRefusal
-unfolding refusal_there bad_plain_words past_plain_limits
-there_accepts words read reference room a =
-    rw (
-      a.operations,
-      le-ltb 64 (length words) a.few,
-      le-ltb 1024 (read_length words) a.short,
-      eq-eqb (length read) (read_length words) a.bases,
-      eq-eqb (length reference) (reference_length words) a.reference_bases_lem,
-      le-ltb room 2048 a.output,
-    )
-
 -- the way back
 pub record AcceptedBack (words : List ℕ) (room : ℕ) : Type 0 where
   pub operations : list_all is_operation words ≡ true
@@ -66,7 +52,7 @@ pub record AcceptedBack (words : List ℕ) (room : ℕ) : Type 0 where
   pub short : read_length words ≤ 1024
   pub output : 2048 ≤ room
 
-pub accepted_back : (words : List ℕ) (room : ℕ) → refusal_back words room ≡ NoRefusal → AcceptedBack words room
+pub accepted_back : (words : List ℕ) (room : ℕ) → refusal_back words room ≡ Ok tt → AcceptedBack words room
 unfolding refusal_back bad_extended_words past_extended_limits
 accepted_back words room e =
     let tests = unrefused (not (list_all is_operation words)) (past_extended_limits words) (small_output room) e in
@@ -78,6 +64,6 @@ accepted_back words room e =
       output = ltb-false room 2048 tests.2;
     }
 
-pub back_accepts : (words : List ℕ) (room : ℕ) → AcceptedBack words room → refusal_back words room ≡ NoRefusal
+pub back_accepts : (words : List ℕ) (room : ℕ) → AcceptedBack words room → refusal_back words room ≡ Ok tt
 unfolding refusal_back bad_extended_words past_extended_limits
 back_accepts words room a = rw (a.operations, le-ltb 1088 (length words) a.few, le-ltb 1024 (read_length words) a.short, le-ltb room 2048 a.output)

@@ -1,8 +1,9 @@
 pub mod Accepted
 pub mod Converting
-pub mod Joining
-pub mod More
+pub mod Counting
+pub mod Left
 pub mod RoundTrip
+pub mod Runs
 pub mod Theorems
 pub mod WayBack
 pub mod WayThere

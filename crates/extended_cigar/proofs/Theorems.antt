@@ -6,9 +6,9 @@ use Prim.Native.Nat.{ℕ, ◌≤◌}
 use native.Mathlib.Omega.{arith}
 use lib.ListN.{length, take}
 use Rattle.std.specs.List.{list_all}
+use Rattle.std.specs.Prelude.{Ok}
 use Rattle.lists.specs.Written.{written}
 use Rattle.lists.proofs.Written.{take_count}
-use Rattle.caller.specs.declared.refusal.Refusal.TheVariants.{NoRefusal}
 use Rattle.raw_bam.specs.Cigar.{read_length, reference_length}
 use Rattle.extended_cigar.specs.declared.convert.CigarAnswer.{CigarAnswer}
 use Rattle.extended_cigar.specs.Converted.{Converted}
@@ -39,21 +39,21 @@ pub record GivenBack (words : List ℕ) : Type 0 where
 
 -- 'There and back gives the plain list with neighbouring M's joined, proved for all lists accepted'
 pub record ThereAndBack (words read reference : List ℕ) : Type 0 where
-  pub accepted : (room : ℕ) → 2048 ≤ room → refusal_back (extended words read reference) room ≡ NoRefusal
+  pub accepted : (room : ℕ) → 2048 ≤ room → refusal_back (extended words read reference) room ≡ Ok tt
   pub back : plain (extended words read reference) ≡ joined_m words
 
-pub given : (words read reference : List ℕ) (room : ℕ) → refusal_there words read reference room ≡ NoRefusal → Given words read reference
+pub given : (words read reference : List ℕ) (room : ℕ) → refusal_there words read reference room ≡ Ok tt → Given words read reference
 given words read reference room e =
     let a = accepted_there words read reference room e in
     record {
-      at_most = at_most_there words read reference a.operations a.few a.short;
+      at_most = at_most_there words read reference a.few a.short;
       same_read = read_there words read reference;
       same_reference = reference_there words read reference;
       no_M = no_M_there words read reference a.operations;
       below = λ h. below_there words read reference h a.short;
     }
 
-pub given_back : (words : List ℕ) (room : ℕ) → refusal_back words room ≡ NoRefusal → GivenBack words
+pub given_back : (words : List ℕ) (room : ℕ) → refusal_back words room ≡ Ok tt → GivenBack words
 given_back words room e =
     let a = accepted_back words room e in
     record {
@@ -64,7 +64,7 @@ given_back words room e =
       below = λ h. below_back words h a.short;
     }
 
-pub round_trip : (words read reference : List ℕ) (room : ℕ) → refusal_there words read reference room ≡ NoRefusal → ThereAndBack words read reference
+pub round_trip : (words read reference : List ℕ) (room : ℕ) → refusal_there words read reference room ≡ Ok tt → ThereAndBack words read reference
 round_trip words read reference room e =
     let a = accepted_there words read reference room e in
     let g = given words read reference room e in

@@ -1,12 +1,13 @@
 // The way back: = and X become M, and neighbouring M's join.
-ghost use Rattle.std.specs.Prelude.{◌≡◌, length};
+ghost use Rattle.std.specs.Prelude.{◌≡◌, length, Ok};
 ghost use Rattle.lists.specs.Written.{written};
-ghost use Rattle.caller.specs.declared.refusal.Refusal.TheVariants.{NoRefusal};
-ghost use Rattle.extended_cigar.specs.Plain.{plain_word, plain};
+ghost use Rattle.raw_bam.specs.Cigar.{op_code};
+ghost use Rattle.extended_cigar.specs.Plain.{plain_word, both_m, plain};
 ghost use Rattle.extended_cigar.specs.Refusals.{refusal_back};
 
 use crate::refusal::is_extended;
 
+#[tactic(auto, unfolding(crate::specs::Plain::plain_word))]
 fn plain_word(word: u32) -> u32
     ensures { result ≡ plain_word word }
 {
@@ -17,29 +18,29 @@ fn plain_word(word: u32) -> u32
     }
 }
 
-// Writes the plain list, and answers the number of its words; an M of at most 1,024 bases has room in a word.
-pub fn write_plain(words: &[u32], output: &mut [u32]) -> usize
-    requires { refusal_back words.now (length output.old) ≡ NoRefusal }
-    ensures { (result ≡ length (plain words.now)) × (output.new ≡ written (plain words.now) output.old) }
+// Two M's, which join.
+fn are_both_m(word: u32, next: u32) -> bool
+    ensures { result ≡ both_m (op_code word) (op_code next) }
 {
-    let count = words.len();
-    if count == 0 {
-        return 0;
-    }
-    let mut last = plain_word(words[0]);
+    word % 16 == 0 && next % 16 == 0
+}
+
+// Writes the plain list, and answers the number of its words; an M of at most 1,024 bases has room in a word.
+// Not one loop with the other way: which neighbours join, as a parameter, is as long as what they share.
+pub fn write_plain(words: &[u32], output: &mut [u32]) -> usize
+    requires { refusal_back words.now (length output.old) ≡ Ok tt }
+    ensures count { result ≡ length (plain words.now) }
+    ensures stored { output.new ≡ written (plain words.now) output.old }
+{
     let mut n = 0;
-    let mut i = 1;
-    while i < count {
-        let word = plain_word(words[i]);
-        if (last % 16 == 0) & (word % 16 == 0) {
-            last += word;
+    for &word in words {
+        let word = plain_word(word);
+        if 0 < n && are_both_m(output[n - 1], word) {
+            output[n - 1] += word;
         } else {
-            output[n] = last;
+            output[n] = word;
             n += 1;
-            last = word;
         }
-        i += 1;
     }
-    output[n] = last;
-    n + 1
+    n
 }

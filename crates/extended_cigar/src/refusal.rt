@@ -1,42 +1,55 @@
 // Refusals 24 to 26 of both ways.
-ghost use Rattle.std.specs.Prelude.{not, ◌≡◌};
-ghost use Rattle.std.specs.List.{list_all};
+ghost use Rattle.std.specs.Prelude.{◌≡◌};
 ghost use Rattle.extended_cigar.specs.Extended.{is_extended};
-ghost use Rattle.extended_cigar.specs.Refusals.{allowed, past_plain_limits, past_extended_limits, refusal_there, refusal_back};
+ghost use Rattle.extended_cigar.specs.Refusals.{number_of, is_plain, bad_plain_words, bad_extended_words, lowest, past_plain_limits, past_extended_limits, refusal_there, refusal_back};
 
-use caller::refusal::{Refusal, or_else, refused_if};
 use raw_bam::cigar::{is_operation, read_length_from_cigar, reference_length_from_cigar};
 
 const OUTPUT_WORDS: usize = 2048;
 
+// Why a list is not converted, by its number in the table of refusals.
+#[derive(Clone, Copy, Debug, PartialEq, Eq)]
+pub enum CigarRefusal {
+    // No operation, or = or X in a plain list.
+    BadOperation = 24,
+    // More words or read bases than accepted, or other bases than the list consumes.
+    PastLimits = 25,
+    SmallOutput = 26,
+}
+
+impl From<CigarRefusal> for u32 {
+    ghost from_gives = { λ refusal n. n ≡ number_of refusal };
+
+    fn from(refusal: CigarRefusal) -> u32 {
+        refusal as u32
+    }
+}
+
 pub fn is_extended(word: u32) -> bool
     ensures { result ≡ is_extended word }
 {
-    (word % 16 == 7) | (word % 16 == 8)
+    matches!(word % 16, 7 | 8)
 }
 
-fn is_allowed(word: u32, plain: bool) -> bool
-    ensures { result ≡ allowed plain word }
+fn is_plain(word: u32) -> bool
+    ensures { result ≡ is_plain word }
 {
-    if plain {
-        is_operation(word) & !is_extended(word)
-    } else {
-        is_operation(word)
-    }
+    is_operation(word) && !is_extended(word)
 }
 
-// Asked of the whole list, however long it is.
-fn has_bad_word(words: &[u32], plain: bool) -> bool
-    ensures { result ≡ not (list_all (allowed plain) words.now) }
+// Operations are asked of the whole list, however long it is. Both ways ask three things of different lists; what they share is `lowest`.
+#[tactic(auto, unfolding(crate::specs::Refusals::bad_plain_words))]
+fn has_bad_plain_word(words: &[u32]) -> bool
+    ensures { result ≡ bad_plain_words words.now }
 {
-    let mut i = 0;
-    while i < words.len() {
-        if !is_allowed(words[i], plain) {
-            return true;
-        }
-        i += 1;
-    }
-    false
+    !words.iter().all(|word| is_plain(*word))
+}
+
+#[tactic(auto, unfolding(crate::specs::Refusals::bad_extended_words))]
+fn has_bad_extended_word(words: &[u32]) -> bool
+    ensures { result ≡ bad_extended_words words.now }
+{
+    !words.iter().all(|word| is_operation(*word))
 }
 
 // Only a short list is summed, so the sums fit.
@@ -52,30 +65,51 @@ fn is_past_plain_limits(words: &[u32], read: usize, reference: usize) -> bool
     1024 < read_bases || read as u64 != read_bases || reference as u64 != reference_bases
 }
 
+#[tactic(auto, unfolding(crate::specs::Refusals::past_extended_limits))]
 fn is_past_extended_limits(words: &[u32]) -> bool
     ensures { result ≡ past_extended_limits words.now }
 {
-    if 1088 < words.len() {
-        return true;
-    }
-    1024 < read_length_from_cigar(words)
+    1088 < words.len() || 1024 < read_length_from_cigar(words)
 }
 
-pub fn refuse_there(words: &[u32], read: &[u8], reference: &[u8], room: usize) -> Refusal
+// Lowest number first.
+fn lowest(bad_operation: bool, past_limits: bool, small_output: bool) -> Result<(), CigarRefusal>
+    ensures { result ≡ lowest bad_operation past_limits small_output }
+{
+    if bad_operation {
+        Err(CigarRefusal::BadOperation)
+    } else if past_limits {
+        Err(CigarRefusal::PastLimits)
+    } else if small_output {
+        Err(CigarRefusal::SmallOutput)
+    } else {
+        Ok(())
+    }
+}
+
+#[tactic(auto, unfolding(crate::specs::Refusals::refusal_there))]
+pub fn check_plain(
+    words: &[u32],
+    read: &[u8],
+    reference: &[u8],
+    room: usize,
+) -> Result<(), CigarRefusal>
     ensures { result ≡ refusal_there words.now read.now reference.now room }
 {
-    let bad = refused_if(has_bad_word(words, true), 24, 0);
-    let over = is_past_plain_limits(words, read.len(), reference.len());
-    let past = refused_if(over, 25, 0);
-    let small = refused_if(room < OUTPUT_WORDS, 26, 0);
-    or_else(bad, or_else(past, small))
+    lowest(
+        has_bad_plain_word(words),
+        is_past_plain_limits(words, read.len(), reference.len()),
+        room < OUTPUT_WORDS,
+    )
 }
 
-pub fn refuse_back(words: &[u32], room: usize) -> Refusal
+#[tactic(auto, unfolding(crate::specs::Refusals::refusal_back))]
+pub fn check_extended(words: &[u32], room: usize) -> Result<(), CigarRefusal>
     ensures { result ≡ refusal_back words.now room }
 {
-    let bad = refused_if(has_bad_word(words, false), 24, 0);
-    let past = refused_if(is_past_extended_limits(words), 25, 0);
-    let small = refused_if(room < OUTPUT_WORDS, 26, 0);
-    or_else(bad, or_else(past, small))
+    lowest(
+        has_bad_extended_word(words),
+        is_past_extended_limits(words),
+        room < OUTPUT_WORDS,
+    )
 }

@@ -1,100 +1,77 @@
 // The way there: each M by the bases under it.
-ghost use Rattle.std.specs.Prelude.{◌≡◌, ◌+◌, ◌≤◌, ◌<◌, length};
-ghost use Rattle.std.proofs.lemmas.List.Edits.{sets};
+ghost use Rattle.std.specs.Prelude.{◌≡◌, ◌+◌, ◌≤◌, ◌<◌, length, Ok};
 ghost use Rattle.lists.specs.Written.{written};
-ghost use Rattle.caller.specs.declared.refusal.Refusal.TheVariants.{NoRefusal};
-ghost use Rattle.raw_bam.specs.Cigar.{op_length, read_bases, reference_bases};
+ghost use Rattle.raw_bam.specs.Cigar.{read_bases, reference_bases};
 ghost use Rattle.raw_bam.specs.Simplified.{joined};
 ghost use Rattle.extended_cigar.specs.Extended.{base_word, base_by_base, extended_word, extended};
 ghost use Rattle.extended_cigar.specs.Refusals.{refusal_there};
 
 use raw_bam::cigar::bases_of;
 
-// Where the bases of an operation begin, in the read and in the reference.
-#[derive(Drop)]
-pub struct Offsets {
-    pub read: usize,
-    pub reference: usize,
-}
-
 // = for equal bytes, X for others, of one base.
+#[tactic(auto, unfolding(crate::specs::Extended::base_word))]
 fn base_word(base: u8, under: u8) -> u32
-    ensures { (result ≡ base_word base under) × (result ≤ 24) }
+    ensures { result ≡ base_word base under }
 {
     if base == under { 23 } else { 24 }
 }
 
-// Writes the words of one M from a place on, neighbours of one kind joined, and answers the place after them.
-fn write_match(
-    read: &[u8],
-    reference: &[u8],
-    at: Offsets,
-    bases: usize,
-    output: &mut [u32],
-    to: usize,
-) -> usize
-    requires { (0 < bases) × (bases ≤ 1024) × (at.read + bases ≤ length read.now) × (at.reference + bases ≤ length reference.now) × (to + bases ≤ length output.old) }
-    ensures { (result ≡ to + length (joined (base_by_base read.now reference.now at.read at.reference bases))) × (output.new ≡ sets output.old to (joined (base_by_base read.now reference.now at.read at.reference bases))) }
+// Writes the words of one M, neighbours of one kind joined, and answers how many.
+fn write_match(read: &[u8], reference: &[u8], output: &mut [u32]) -> usize
+    requires few { length read.now ≤ 1024 }
+    requires as_many { length reference.now ≡ length read.now }
+    requires room { length read.now ≤ length output.old }
+    ensures count { result ≡ length (joined (base_by_base read.now reference.now 0 0 (length read.now))) }
+    ensures stored { output.new ≡ written (joined (base_by_base read.now reference.now 0 0 (length read.now))) output.old }
 {
-    let i = at.read;
-    let j = at.reference;
-    let mut last = base_word(read[i], reference[j]);
-    let mut n = to;
-    let mut k = 1;
-    while k < bases {
-        let word = base_word(read[i + k], reference[j + k]);
-        if last % 16 == word % 16 {
-            last += word / 16 * 16;
+    let mut n = 0;
+    for (k, &base) in read.iter().enumerate() {
+        let word = base_word(base, reference[k]);
+        if 0 < n && output[n - 1] % 16 == word % 16 {
+            output[n - 1] += word / 16 * 16;
         } else {
-            output[n] = last;
+            output[n] = word;
             n += 1;
-            last = word;
         }
-        k += 1;
     }
-    output[n] = last;
-    n + 1
+    n
 }
 
 // Writes the words of one operation: those of an M by its bases, any other as it is.
-fn write_word(
-    word: u32,
-    read: &[u8],
-    reference: &[u8],
-    at: Offsets,
-    output: &mut [u32],
-    to: usize,
-) -> usize
-    requires { (0 < op_length word) × (read_bases word ≤ 1024) × (at.read + read_bases word ≤ length read.now) × (at.reference + reference_bases word ≤ length reference.now) × (to + read_bases word + 1 ≤ length output.old) }
-    ensures { (result ≡ to + length (extended_word read.now reference.now at.read at.reference word)) × (output.new ≡ sets output.old to (extended_word read.now reference.now at.read at.reference word)) }
+#[tactic(auto, unfolding(crate::specs::Extended::extended_word))]
+fn write_word(word: u32, read: &[u8], reference: &[u8], output: &mut [u32]) -> usize
+    requires few { read_bases word ≤ 1024 }
+    requires read { length read.now ≡ read_bases word }
+    requires reference { length reference.now ≡ reference_bases word }
+    requires room { read_bases word < length output.old }
+    ensures count { result ≡ length (extended_word read.now reference.now 0 0 word) }
+    ensures stored { output.new ≡ written (extended_word read.now reference.now 0 0 word) output.old }
 {
     if word % 16 == 0 {
-        return write_match(read, reference, at, (word / 16) as usize, output, to);
+        write_match(read, reference, output)
+    } else {
+        output[0] = word;
+        1
     }
-    output[to] = word;
-    to + 1
 }
 
-// Writes the extended list, and answers the number of its words.
+// Writes the extended list, and answers the number of its words. Into a lent slice, since there is no heap; no struct of the lists, since each
+// operation takes its own part of two of them.
 pub fn write_extended(words: &[u32], read: &[u8], reference: &[u8], output: &mut [u32]) -> usize
-    requires { refusal_there words.now read.now reference.now (length output.old) ≡ NoRefusal }
-    ensures { (result ≡ length (extended words.now read.now reference.now)) × (output.new ≡ written (extended words.now read.now reference.now) output.old) }
+    requires { refusal_there words.now read.now reference.now (length output.old) ≡ Ok tt }
+    ensures count { result ≡ length (extended words.now read.now reference.now) }
+    ensures stored { output.new ≡ written (extended words.now read.now reference.now) output.old }
 {
-    let mut i = 0;
-    let mut j = 0;
-    let mut to = 0;
-    let mut k = 0;
-    while k < words.len() {
-        let word = words[k];
-        let at = Offsets {
-            read: i,
-            reference: j,
-        };
-        to = write_word(word, read, reference, at, output, to);
+    let mut read_left = read;
+    let mut reference_left = reference;
+    let mut n = 0;
+    for &word in words {
         let bases = bases_of(word);
-        i += bases.read as usize;
-        j += bases.reference as usize;
-        k += 1;
+        let (own_read, read_after) = read_left.split_at(bases.read as usize);
+        let (own_reference, reference_after) = reference_left.split_at(bases.reference as usize);
+        n += write_word(word, own_read, own_reference, &mut output[n..]);
+        read_left = read_after;
+        reference_left = reference_after;
     }
-    to
+    n
 }

@@ -1,13 +1,9 @@
 -- Laws of what a family call answers: the list is short, and so is the duplex.
-use mathlib.Core.Bool.{false}
 use mathlib.Core.List.{List, []}
 use mathlib.Core.Path.{◌≡◌, refl, ap}
-use Prim.Native.Nat.{ℕ}
 use native.Mathlib.Omega.{arith}
-use lib.Dec.{ltb}
-use Rattle.caller.proofs.Refusals.{neither_refuses}
-use Rattle.caller.specs.Refusals.{is_refusal, refused_if}
-use Rattle.caller.specs.declared.refusal.Refusal.TheVariants.{NoRefusal, Refused}
+use Rattle.std.specs.Prelude.{Result, Ok, Err}
+use Rattle.caller.proofs.Refusals.{passed, both_passed}
 use Rattle.caller.specs.declared.refusal.Refusal.{Refusal}
 use Rattle.codec_family.proofs.Called.{called_short}
 use Rattle.codec_family.proofs.Counting.{counted-all, counted-rejections}
@@ -31,7 +27,7 @@ use Rattle.codec_samples.specs.SampledCall.{SampledCall, sampled_refusal}
 use Rattle.codec_samples.specs.SampledFamily.{SampledFamilyCalled}
 use Rattle.codec_stats.specs.Ledger.{Counts}
 use Rattle.lists.specs.Total.{total}
-use Rattle.family_calls.specs.Places.{Short}
+use Rattle.family_calls.specs.Short.{Short}
 
 reported-length : (e : Ending) → (reported e).length ≡ called_length e
 reported-length (endings.Called length) = refl
@@ -39,21 +35,21 @@ reported-length endings.Empty = refl
 reported-length endings.NoStrand = refl
 reported-length (endings.Rejected reason) = refl
 reported-length (endings.Disagreeing limit) = refl
-reported-length (endings.Refused number given) = refl
+reported-length (endings.Refused refusal) = refl
 
 no_rejections : rejections [] ≡ 0
 unfolding rejections total
 no_rejections = refl
 
 module _ (c : Call) (before after : Lent) (answer : Answer) where
-  refused_short : (number given : ℕ) → Results c (Refused number given) before (reported_answer answer) after → Short answer
+  refused_short : (why : Refusal) → Results c (Err why) before (reported_answer answer) after → Short answer
   unfolding ending_with fates_with
-  refused_short number given results = record {
+  refused_short why results = record {
     few = omega (arith, results.list_length, length-handover [], no_rejections);
     short = omega (arith, reported-length answer.ending, ap (λ (e : FamilyEnding). e.length) results.ended);
   }
 
-  called_few : is_refusal (of_records c) ≡ false → Results c NoRefusal before (reported_answer answer) after → Short answer
+  called_few : of_records c ≡ Ok tt → Results c (Ok tt) before (reported_answer answer) after → Short answer
   unfolding ending_with fates_with
   called_few none results = record {
     few = omega (arith, results.list_length, length-handover (fates c), counted-rejections c, counted-all c (fated c none), few_records c none);
@@ -61,14 +57,14 @@ module _ (c : Call) (before after : Lent) (answer : Answer) where
   }
 
 -- a call that is not refused is not refused for its records
-stands : (c : SampledCall) (books : Books) → is_refusal (sampled_refusal c books) ≡ false → is_refusal (of_records c.call) ≡ false
+stands : (c : SampledCall) (books : Books) → sampled_refusal c books ≡ Ok tt → of_records c.call ≡ Ok tt
 unfolding sampled_refusal
-stands c books none = records_stand c.call (neither_refuses (of_call c.call) _ (neither_refuses (refused_if (ltb 95 c.sample) 20 0) _ none).1).0
+stands c books none = records_stand c.call (both_passed (of_call c.call) _ (passed _ _ _ none).1).0
 
 -- a family lists at most its 512 records, and no duplex is longer than 2,047
 pub answer_short : (c : SampledCall) (books : Books) (before after : Lent) (answer : Answer) (samples : List Counts) → SampledFamilyCalled c books before (reported_answer answer) samples after → Short answer
 answer_short c books before after answer samples called = go (sampled_refusal c books) refl
   where
-    go : (r : Refusal) → sampled_refusal c books ≡ r → Short answer
-    go (Refused number given) e = refused_short c.call before after answer number given (rw e at called.results)
-    go NoRefusal e = called_few c.call before after answer (stands c books (rw e)) (rw e at called.results)
+    go : (r : Result Unit Refusal) → sampled_refusal c books ≡ r → Short answer
+    go (Err why) e = refused_short c.call before after answer why (rw e at called.results)
+    go (Ok done) e = called_few c.call before after answer (stands c books (rw e)) (rw e at called.results)

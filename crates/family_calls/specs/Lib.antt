@@ -1,3 +1,4 @@
+pub mod Columns
 pub mod Ledgers
-pub mod Places
-pub mod Written
+pub mod Room
+pub mod Short

@@ -2,10 +2,12 @@
 // the family call answers to each, one ledger going through the whole input, and one for each sample that it names.
 #![tactic(auto)]
 
-use family_calls::files;
-use family_calls::form::Form;
+mod answers;
+
+use crate::answers::Answers;
+use family_windows::files;
 use std::io;
 
 fn main(rt: HostRuntime) -> io::Result<()> {
-    files::run(&rt, Form::Answers)
+    files::run::<Answers, HostRuntime>(&rt)
 }

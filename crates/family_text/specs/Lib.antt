@@ -1,1 +1,3 @@
+pub mod Announced
 pub mod Family
+pub mod Shown

@@ -1,4 +1,6 @@
 // Family calls as text, read one at a time.
 #![tactic(auto)]
 
+pub mod call;
 pub mod family;
+pub mod room;

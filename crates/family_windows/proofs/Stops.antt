@@ -1,40 +1,35 @@
--- Laws of where a window ends.
-use mathlib.Core.Bool.{Bool, true, false, cond}
-use mathlib.Core.Path.{◌≡◌, refl}
-use Prim.Native.Nat.{ℕ, ◌≤◌}
-use native.Mathlib.Omega.{arith}
-use borrow.Author.Tests.{eqb-false}
-use lib.Dec.{eqb}
-use Rattle.line_text.specs.Reading.{next_place, stop_place}
-use Rattle.line_text.specs.declared.lines.Next.TheVariants as nexts
-use Rattle.line_text.specs.declared.lines.Next.{Next}
-use Rattle.line_text.specs.declared.lines.Stop.TheVariants as stops
+-- Laws of where the next window begins.
+use Rattle.std.proofs.Common.{◌≡◌, ℕ, ◌<◌, Bool, true, false, cond, refl, sym, ap, Ok, Err, Result, ltb}
+use borrow.Author.Tests.{ltb-true}
+use Rattle.line_text.specs.Reading.{stop_place}
 use Rattle.line_text.specs.declared.lines.Stop.{Stop}
-use Rattle.family_windows.specs.Places.{ReachedWithin, beginning, stopped}
-use Rattle.family_windows.specs.declared.windows.Reached.TheVariants.{Until, Malformed}
+use Rattle.line_text.specs.declared.lines.Stop.TheVariants as stops
+use Rattle.ledger_lines.specs.declared.settings.Handed.{Handed}
+use Rattle.family_windows.specs.Stops.{malformed, next_window}
+use Rattle.family_windows.specs.declared.windows.Malformed.{Malformed}
 
-module _ (size room to : ℕ) (fits : to ≤ room) where
-  beginning-within : (ledgers : Next) (place : ℕ) → next_place ledgers ≤ size → place ≤ size → ReachedWithin size room (beginning ledgers place to)
-  beginning-within (nexts.Until family) place h p = go (eqb family 0) refl
-    where
-      go : (t : Bool) → eqb family 0 ≡ t → ReachedWithin size room (cond t (Malformed place) (Until family to))
-      go true known = p
-      go false known = (omega (arith, eqb-false family 0 known), h, fits)
-  beginning-within (nexts.Stopped stop) place h p = p
+taken : (test : Bool) (place : ℕ) (handed after : Handed) (family next : ℕ) → ◌≡◌ {A = Result (Handed × ℕ) Malformed} (cond test (Ok (handed, family)) (malformed place)) (Ok (after, next)) → (test ≡ true) × (◌≡◌ {A = Handed × ℕ} (handed, family) (after, next))
+taken true place handed after family next e = (refl, cc)
+taken false place handed after family next e = absurd cc
 
-  -- the place is in the text, and a window that is given up is given up for a later place
-  pub stopped-within : (ledgers : Next) (stop : Stop) (ends : Bool) → next_place ledgers ≤ size → stop_place stop ≤ size → ReachedWithin size room (stopped ledgers stop ends to)
-  stopped-within ledgers (stops.Malformed place) ends h p = p
-  stopped-within ledgers (stops.Cut place) true h p = p
-  stopped-within ledgers (stops.Cut place) false h p = beginning-within ledgers place h p
+-- the next window begins behind the lines in front of a family, and never where this one does
+pub begins : (begun : Result (Handed × ℕ) Stop) (stop : Stop) (ends : Bool) (handed : Handed) (family : ℕ) → Ok (handed, family) ≡ next_window begun stop ends → (begun ≡ Ok (handed, family)) × (0 < family)
+unfolding next_window
+begins begun (stops.Malformed place) ends handed family e = absurd cc
+begins begun (stops.Cut place) true handed family e = absurd cc
+begins (Err unread) (stops.Cut place) false handed family e = absurd cc
+begins (Ok (first, next)) (stops.Cut place) false handed family e =
+    let t = taken (ltb 0 next) place first handed next family (sym e) in
+    (ap Ok t.1, rw (ap (λ (p : Handed × ℕ). p.1) t.1) at (ltb-true 0 next t.0))
 
--- the next window begins behind the ledgers
-pub stopped-next : (ledgers : Next) (stop : Stop) (ends : Bool) (to after filled : ℕ) → stopped ledgers stop ends to ≡ Until after filled → ledgers ≡ nexts.Until after
-stopped-next ledgers (stops.Malformed place) ends to after filled e = let z : ◌≡◌ {A = ℕ} 0 1 = cc in absurd (omega arith)
-stopped-next ledgers (stops.Cut place) true to after filled e = let z : ◌≡◌ {A = ℕ} 0 1 = cc in absurd (omega arith)
-stopped-next (nexts.Stopped stop) (stops.Cut place) false to after filled e = let z : ◌≡◌ {A = ℕ} 0 1 = cc in absurd (omega arith)
-stopped-next (nexts.Until family) (stops.Cut place) false to after filled e = go (eqb family 0) e
+-- the line that is malformed is the one where reading stopped
+pub stopped : (begun : Result (Handed × ℕ) Stop) (stop : Stop) (ends : Bool) (at : Malformed) → Err at ≡ next_window begun stop ends → at.place ≡ stop_place stop
+unfolding next_window
+stopped begun (stops.Malformed place) ends at e = cc
+stopped begun (stops.Cut place) true at e = cc
+stopped (Err unread) (stops.Cut place) false at e = cc
+stopped (Ok (first, next)) (stops.Cut place) false at e = go (ltb 0 next) e
   where
-    go : (t : Bool) → cond t (Malformed place) (Until family to) ≡ Until after filled → nexts.Until family ≡ nexts.Until after
-    go true f = let z : ◌≡◌ {A = ℕ} 0 1 = cc in absurd (omega arith)
+    go : (test : Bool) → ◌≡◌ {A = Result (Handed × ℕ) Malformed} (Err at) (cond test (Ok (first, next)) (malformed place)) → at.place ≡ place
+    go true f = absurd cc
     go false f = cc

@@ -1,1 +1,3 @@
-pub mod Places
+pub mod Going
+pub mod Pages
+pub mod Stops

@@ -1,5 +1,8 @@
-// Reading a file of families in windows, and what the programs that do so say of it.
+// A file of families, read in windows: each family is answered by what the program is for.
 #![tactic(auto)]
 
+pub mod files;
 pub mod output;
+pub mod passes;
+pub mod service;
 pub mod windows;

@@ -1,12 +1,14 @@
 // What the programs write besides answers.
-ghost use Rattle.std.specs.Prelude.{◌+◌, ◌≤◌, length};
+ghost use Rattle.std.specs.Prelude.{◌≤◌, length};
+ghost use Rattle.table_text.specs.Page.{HasRoom};
+ghost use Rattle.family_windows.specs.Pages.{KeepsBuffer};
 
 use std::io;
+use table_text::page::Page;
 
-// How the reading of a file ended; a malformed line by its number.
-#[derive(Drop)]
-pub enum Verdict {
-    Read,
+// Why a file was not read to its end: a line is malformed, told by its number, or the file gives no more.
+#[derive(Clone, Copy, Debug, PartialEq, Eq)]
+pub enum Unread {
     Malformed(usize),
     Unreadable,
 }
@@ -28,16 +30,16 @@ pub fn write_out(rt: &(impl Print + Eprint), output: &[u8]) {
     said(rt, rt.write_all(output));
 }
 
-// Writes out what stands in the output where an answer of so many bytes may not fit behind it.
-pub fn make_room(rt: &(impl Print + Eprint), output: &[u8], to: usize, room: usize) -> usize
-    requires { (to ≤ length output.now) × (room ≤ length output.now) }
-    ensures { result + room ≤ length output.now }
+// Writes out what the page has where an answer of so many bytes may not fit behind it.
+pub fn make_room(rt: &(impl Print + Eprint), page: &mut Page, room: usize)
+    requires { room ≤ length page.old.bytes.now }
+    ensures roomy { HasRoom room page.new }
+    ensures kept { KeepsBuffer page.old page.new }
 {
-    if room <= output.len() - to {
-        return to;
+    if page.room() < room {
+        write_out(rt, page.text());
+        page.end = 0;
     }
-    write_out(rt, &output[..to]);
-    0
 }
 
 // A refusal by its number, and what goes with it.
@@ -45,11 +47,11 @@ pub fn write_refusal(rt: &(impl Print + Eprint), number: u64, given: u64) {
     said(rt, println!(rt; "refused {number} {given}"));
 }
 
-pub fn report(rt: &(impl Print + Eprint), verdict: Verdict) {
-    match verdict {
-        Verdict::Read => {}
-        Verdict::Malformed(line) => write_refusal(rt, 13, line as u64),
-        Verdict::Unreadable => {
+pub fn report(rt: &(impl Print + Eprint), read: Result<(), Unread>) {
+    match read {
+        Ok(()) => {}
+        Err(Unread::Malformed(line)) => write_refusal(rt, 13, line as u64),
+        Err(Unread::Unreadable) => {
             let _ = rt.eprintln("the input could not be read to its end");
         }
     }

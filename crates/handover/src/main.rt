@@ -3,10 +3,12 @@
 // samples are named, theirs.
 #![tactic(auto)]
 
-use family_calls::files;
-use family_calls::form::Form;
+mod list;
+
+use crate::list::HandedOver;
+use family_windows::files;
 use std::io;
 
 fn main(rt: HostRuntime) -> io::Result<()> {
-    files::run(&rt, Form::Handover)
+    files::run::<HandedOver, HostRuntime>(&rt)
 }

@@ -11,17 +11,17 @@ use Rattle.codec_family.specs.declared.ending.Ending.{Ending}
 use Rattle.handover_text.specs.Handover.{reason_names, reason_name}
 
 -- the longest is IndelErrorBetweenStrands
-pub length-name_of : (reason : RejectionReason) → length (name_of reason) ≤ 24
-length-name_of FragmentRead = omega arith
-length-name_of NotPrimaryFrPair = omega arith
-length-name_of InsufficientReads = omega arith
-length-name_of MinorityAlignment = omega arith
-length-name_of Downsampled = omega arith
-length-name_of InsufficientOverlap = omega arith
-length-name_of IndelErrorBetweenStrands = omega arith
-length-name_of Dovetail = omega arith
-length-name_of ClipOverlapFailed = omega arith
-length-name_of HighDuplexDisagreement = omega arith
+pub longest_name : (reason : RejectionReason) → length (name_of reason) ≤ 24
+longest_name FragmentRead = omega arith
+longest_name NotPrimaryFrPair = omega arith
+longest_name InsufficientReads = omega arith
+longest_name MinorityAlignment = omega arith
+longest_name Downsampled = omega arith
+longest_name InsufficientOverlap = omega arith
+longest_name IndelErrorBetweenStrands = omega arith
+longest_name Dovetail = omega arith
+longest_name ClipOverlapFailed = omega arith
+longest_name HighDuplexDisagreement = omega arith
 
 -- the reason with a number has its name
 pub named : (reason : RejectionReason) → reason_name (number_of reason) ≡ name_of reason
@@ -53,4 +53,4 @@ uncalled Empty none = refl
 uncalled NoStrand none = refl
 uncalled (Rejected reason) none = refl
 uncalled (Disagreeing limit) none = refl
-uncalled (Refused number given) none = refl
+uncalled (Refused refusal) none = refl

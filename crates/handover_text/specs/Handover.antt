@@ -1,6 +1,7 @@
 -- The list that is handed over: the families that gave no duplex, and their rejected records.
 use Rattle.std.specs.Prelude.{cond, List, [], ◌∷◌, ◌++◌, ℕ, ◌≤◌, length, get_or}
 use Rattle.caller.specs.Reasons.{name_of}
+use Rattle.caller.specs.Refusals.{number_of, given_of}
 use Rattle.caller.specs.declared.reason.RejectionReason.TheVariants.{FragmentRead, NotPrimaryFrPair, InsufficientReads, MinorityAlignment, Downsampled, InsufficientOverlap, IndelErrorBetweenStrands, Dovetail, ClipOverlapFailed, HighDuplexDisagreement}
 use Rattle.codec_family.specs.Ending.{is_called}
 use Rattle.codec_family.specs.declared.answer.Answer.{Answer}
@@ -37,7 +38,7 @@ outcome_text Empty = bytes_of " empty"
 outcome_text NoStrand = bytes_of " no strand"
 outcome_text (Rejected reason) = bytes_of " rejected " ++ name_of reason
 outcome_text (Disagreeing limit) = bytes_of " rejected " ++ name_of HighDuplexDisagreement
-outcome_text (Refused number given) = bytes_of " refused" ++ fields_text (number ∷ given ∷ [])
+outcome_text (Refused refusal) = bytes_of " refused" ++ fields_text (number_of refusal ∷ given_of refusal ∷ [])
 
 -- `family FAMILY empty | no strand | rejected NAME | refused NUMBER WITH`
 unfoldable pub ended_text : (family : ℕ) → Ending → List ℕ

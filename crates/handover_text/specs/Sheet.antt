@@ -1,10 +1,13 @@
 -- The ledger as a sheet for people: one figure a line, by document 01's words.
 use Rattle.std.specs.Prelude.{Result, Ok, Err, List, [], ◌∷◌, ◌++◌, ℕ, ◌+◌, ◌/◌, ◌%◌, get_or}
 use Prim.Native.Char.{code}
-use Rattle.codec_stats.specs.Ledger.{refusal_number, rates_of}
+use Rattle.std.specs.Borrow.{Bor}
+use Rattle.std.specs.List.{flat_map}
+use Rattle.caller.specs.Refusals.{ledger_number}
+use Rattle.caller.specs.declared.refusal.LedgerRefusal.{LedgerRefusal}
+use Rattle.codec_stats.specs.Ledger.{rates_of}
 use Rattle.codec_stats.specs.declared.ledger.Ledger.{Ledger}
 use Rattle.codec_stats.specs.declared.rates.LedgerRates.{LedgerRates}
-use Rattle.codec_stats.specs.declared.refusals.LedgerRefusal.{LedgerRefusal}
 use Rattle.table_text.specs.Decimal.{decimal}
 use Rattle.table_text.specs.Text.{bytes_of, space}
 use Rattle.table_text.specs.Texts.{texts}
@@ -18,6 +21,10 @@ reason_text reason count = line_with (reason_name reason) (bytes_of ":" ++ field
 -- 'ten reasons', 1 to 10
 unfoldable pub reasons_text : (counts : List ℕ) → List ℕ
 reasons_text counts = texts (λ i. reason_text (i + 1) (get_or counts i 0)) 10
+
+-- a line for each label and its count
+unfoldable pub counts_text : List (Bor (List ℕ) × ℕ) → List ℕ
+counts_text lines = flat_map (λ line. line_text line.0.now (line.1 ∷ [])) lines
 
 -- families, records and their fates
 unfoldable pub fates_text : Ledger → List ℕ
@@ -59,7 +66,7 @@ fraction_text millionths =
 unfoldable pub rates_text : Result LedgerRates LedgerRefusal → List ℕ
 rates_text (Ok found) =
     line_text (bytes_of "filtered:") (found.filtered ∷ []) ++ (line_with (bytes_of "rate:") (fraction_text found.millionths) ++ line_text (bytes_of "rate in millionths:") (found.millionths ∷ []))
-rates_text (Err refusal) = line_text (bytes_of "refused:") (refusal_number refusal ∷ 0 ∷ [])
+rates_text (Err refusal) = line_text (bytes_of "refused:") (ledger_number refusal ∷ 0 ∷ [])
 
 -- the sheet of a ledger: every figure
 unfoldable pub sheet_text : Ledger → List ℕ

@@ -3,6 +3,10 @@
 
 use codec_dispatch::dispatch::{Dispatcher, LaneRefusal};
 use std::io;
+use std::io::Read;
+
+// Room for the lists that are stored.
+const TEXT_BYTES: u64 = 4096;
 
 fn show_added(rt: &impl Print, added: Result<(), LaneRefusal>) -> io::Result<()> {
     match added {
@@ -27,29 +31,37 @@ fn show_dispatcher(rt: &impl Print, dispatcher: &Dispatcher) -> io::Result<()> {
     Ok(())
 }
 
-// A line is a word, and a number or none. LAST and EACH make a dispatcher that a host may hand in: the lane served last, or
-// each of the counts.
-fn run_line(rt: &impl Print, line: &str, dispatcher: &mut Dispatcher) -> io::Result<()> {
-    let (word, n) = match line.split_once(' ') {
-        Some((word, digits)) => (word, digits.parse::<u32>().unwrap_or(0)),
-        None => (line, 0),
-    };
-    match word {
-        "ADD" => show_added(rt, dispatcher.add(n))?,
-        "TURN" => show_turn(rt, dispatcher.turn())?,
-        "FRESH" => *dispatcher = Dispatcher::default(),
-        "LAST" => dispatcher.last = n,
-        "EACH" => dispatcher.waiting = [(n % 65536) as u16; 8],
+// The digits of a line, as one number of 32 bits.
+fn number_in(line: &[u8]) -> u32 {
+    let digits = line.iter().filter(|byte| byte.is_ascii_digit());
+    digits.fold(
+        0u32,
+        |n, digit| n.wrapping_mul(10).wrapping_add(u32::from(*digit & 15)),
+    )
+}
+
+// A line says what it asks by its first letter. L and E make a dispatcher that a host may hand in: the lane served last, or each of
+// the counts.
+fn run_line(rt: &impl Print, line: &[u8], dispatcher: &mut Dispatcher) -> io::Result<()> {
+    let n = number_in(line);
+    match line.first() {
+        Some(b'A') => show_added(rt, dispatcher.add(n))?,
+        Some(b'T') => show_turn(rt, dispatcher.turn())?,
+        Some(b'F') => *dispatcher = Dispatcher::default(),
+        Some(b'L') => dispatcher.last = n,
+        Some(b'E') => dispatcher.waiting = [(n % 65536) as u16; 8],
         _ => return Ok(()),
     }
     show_dispatcher(rt, dispatcher)
 }
 
 fn main(rt: HostRuntime) -> io::Result<()> {
-    let text = io::read_to_string(rt.alloc(), rt.reader())?;
+    let mut text = Vec::new(rt.alloc());
+    rt.reader().take(TEXT_BYTES).read_to_end(&mut text)?;
     let mut dispatcher = Dispatcher::default();
-    for line in text.lines() {
-        print!(rt; "{line}")?;
+    for line in text.split_inclusive(|byte| *byte == b'\n') {
+        let line = line.strip_suffix(b"\n").unwrap_or(line);
+        rt.write_all(line)?;
         run_line(&rt, line, &mut dispatcher)?;
         println!(rt; "")?;
     }

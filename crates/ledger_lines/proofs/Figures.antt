@@ -1,31 +1,31 @@
 -- Laws of the lines in front of a family.
-use mathlib.Core.List.{List}
-use mathlib.Core.Path.{◌≡◌}
-use Prim.Native.Nat.{ℕ, ◌+◌, ◌-◌, ◌≤◌, ◌<◌}
-use lib.ListN.{length, take, drop, drop_of_length-le}
-use Rattle.table_text.specs.Bytes.{index_of}
-use Rattle.table_text.proofs.Partings.{part_ended, part_last}
-use Rattle.table_text.specs.Parts.{parts}
-use Rattle.line_text.specs.Reading.{got, wrong, lines_from}
-use Rattle.ledger_lines.specs.Ledgers.{by_told, ledgers_from}
-use Rattle.ledger_lines.specs.Settings.{setting_of}
+use Rattle.std.proofs.Common.{◌≡◌, ◌<◌, ◌≤◌, ℕ, List, length, Some, None, Ok, Err}
+use Rattle.std.specs.Borrow.{Bor}
+use Rattle.line_text.specs.Reading.{wrong, lines_from, ReadsLine}
+use Rattle.line_text.specs.declared.lines.Stop.{Stop}
+use Rattle.line_text.specs.declared.lines.Stop.TheVariants.{Malformed}
+use Rattle.line_text.proofs.Readings.{line_ended, line_last}
+use Rattle.ledger_lines.specs.Ledgers.{by_setting, ledgers_from, NextSetting}
+use Rattle.ledger_lines.specs.Settings.{Settable, set_by, setting_of}
 use Rattle.ledger_lines.specs.declared.settings.Handed.{Handed}
 use Rattle.ledger_lines.specs.declared.settings.Setting.{Setting}
 
-module _ (handed : Handed) where
-  -- at the end there is none
-  pub ledgers_end : (text : List ℕ) (at : ℕ) → length text ≤ at → ledgers_from handed (lines_from text at) ≡ got handed (lines_from text at)
-  unfolding ledgers_from parts
-  ledgers_end text at h = rw (drop_of_length-le text h)
+module _ (text : List ℕ) (at : ℕ) (inside : at ≤ length text) where
+  -- a line that is not ended sets nothing
+  pub setting_last : (stop : Stop) → ReadsLine text at (Err stop) → NextSetting text at (Ok None)
+  unfolding ledgers_from
+  setting_last stop read = let found = line_last text at stop read in record { said = λ h. rw found.1; within = inside }
 
-  module _ (text : List ℕ) (at end : ℕ) (is : end ≡ at + index_of 10 (drop at text)) where
-    -- a line that is not ended
-    pub ledgers_last : at ≤ length text → length text ≤ end → ledgers_from handed (lines_from text at) ≡ got handed (lines_from text at)
+  module _ (line : Bor (List ℕ)) (after : ℕ) (read : ReadsLine text at (Ok (line, after))) where
+    setting_line : (h : Handed) → ledgers_from h (lines_from text at) ≡ by_setting (setting_of line.now) (λ setting. ledgers_from (set_by h setting) (lines_from text after)) (Err (wrong (lines_from text at))) (Ok (h, lines_from text at))
     unfolding ledgers_from
-    ledgers_last inside h = rw (part_last 10 text at end is inside h)
+    setting_line h = rw (line_ended text at line after read)
 
-    -- a line, by what it says
-    pub ledgers_told : end < length text → (r : Setting) → r ≡ setting_of handed (take (end - at) (drop at text))
-        → ledgers_from handed (lines_from text at) ≡ by_told r.told (ledgers_from r.handed (lines_from text (end + 1))) (wrong (lines_from text at)) (got handed (lines_from text at))
-    unfolding ledgers_from
-    ledgers_told h r e = rw (e, part_ended 10 text at end is h)
+    pub setting_other : setting_of line.now ≡ None → NextSetting text at (Ok None)
+    setting_other e = record { said = λ h. rw e at (setting_line h); within = inside }
+
+    pub setting_wrong : setting_of line.now ≡ Some None → NextSetting text at (Err (Malformed at))
+    setting_wrong e = record { said = λ h. rw e at (setting_line h); within = inside }
+
+    pub setting_said : at < after → (setting : Setting) → Settable setting → setting_of line.now ≡ Some (Some setting) → NextSetting text at (Ok (Some (setting, after)))
+    setting_said onward setting settable e = record { said = λ h. rw e at (setting_line h); within = (settable, onward, read.within) }

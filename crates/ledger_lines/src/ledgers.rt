@@ -1,59 +1,39 @@
 // The lines in front of a family that set what it is handed.
 ghost use Rattle.std.specs.Prelude.{◌≤◌, length};
-ghost use Rattle.line_text.specs.Reading.{Steps, lines_from};
-ghost use Rattle.ledger_lines.specs.Ledgers.{ledgers_from};
+ghost use Rattle.line_text.specs.Reading.{Reads, lines_from};
+ghost use Rattle.ledger_lines.specs.Ledgers.{NextSetting, ledgers_from};
 
 use crate::settings;
-use crate::settings::{Handed, Told};
-use line_text::lines::{Next, Stop};
-use table_text::parts;
+use crate::settings::{Handed, Setting};
+use line_text::lines;
+use line_text::lines::Stop;
 
-// What a family is handed, and where its first line begins.
-#[derive(Drop)]
-pub struct LedgerRead {
-    pub next: Next,
-    pub handed: Handed,
+// What the line that begins at a place sets, and where the line after it begins; none where it sets nothing or is not ended.
+fn next_setting(text: &[u8], at: usize) -> Result<Option<(Setting, usize)>, Stop>
+    requires { at ≤ length text.now }
+    ensures { NextSetting text.now at result }
+{
+    let Ok((line, after)) = lines::line_at(text, at) else {
+        return Ok(None);
+    };
+    let Some(said) = settings::read_setting(line) else {
+        return Ok(None);
+    };
+    let setting = said.ok_or(Stop::Malformed(at))?;
+    Ok(Some((setting, after)))
 }
 
-// Up to the first line that sets nothing; what is set last counts.
-pub fn read_ledgers(text: &[u8], start: usize, handed: Handed) -> LedgerRead
+// What is handed after the lines that set something, and where the first other line begins; what is set last counts.
+// A line's end says where the next begins: no range or chain has these places.
+pub fn read_ledgers(text: &[u8], start: usize, before: Handed) -> Result<(Handed, usize), Stop>
     requires { start ≤ length text.now }
-    ensures { Steps text.now result.handed result.next (ledgers_from handed (lines_from text.now start)) }
+    ensures { Reads (λ handed. handed) text.now result (ledgers_from before (lines_from text.now start)) }
 {
-    let mut held = handed;
+    let mut handed = before;
     let mut at = start;
-    while at < text.len() {
-        let end = parts::part_end(text, at, b'\n');
-        if text.len() <= end {
-            return LedgerRead {
-                next: Next::Until(at),
-                handed: held,
-            };
-        }
-        let setting = settings::read_setting(&text[at..end], held);
-        let told = setting.told;
-        match told {
-            Told::Set => {
-                let after = setting.handed;
-                held = after;
-                at = end + 1;
-            }
-            Told::Malformed => {
-                return LedgerRead {
-                    next: Next::Stopped(Stop::Malformed(at)),
-                    handed: held,
-                };
-            }
-            Told::Other => {
-                return LedgerRead {
-                    next: Next::Until(at),
-                    handed: held,
-                };
-            }
-        }
+    while let Some((setting, after)) = next_setting(text, at)? {
+        handed.set(setting);
+        at = after;
     }
-    LedgerRead {
-        next: Next::Until(at),
-        handed: held,
-    }
+    Ok((handed, at))
 }

@@ -1,169 +1,105 @@
 // A line in front of a family: `G` and 20 numbers set the run's ledger, `GS SAMPLE` and 20 numbers that sample's, and `N SAMPLE` names the
 // sample of the families after it.
-ghost use Rattle.std.specs.Prelude.{◌≡◌};
-ghost use Rattle.table_text.specs.Fields.{fields_from, number_field};
-ghost use Rattle.ledger_lines.specs.Settings.{ledger_from, figures_of, not_set, run_set, sample_read, name_read, setting_of};
+ghost use Rattle.std.specs.Prelude.{◌≡◌, IfSome};
+ghost use Rattle.table_text.specs.Fields.{fields_from};
+ghost use Rattle.ledger_lines.specs.Settings.{Settable, fresh_handed, set_by, figures_of, run_of, sample_of, name_of, setting_of};
 
-use codec_stats::ledger::Ledger;
-use line_text::line;
-use line_text::line::{Tag, Values};
-use line_text::value::Value;
-use sample_ledgers::samples::store_sample;
+use codec_stats::ledger::{COUNTS, Ledger};
+use line_text::{line, numbers};
+use sample_ledgers::samples;
+use sample_ledgers::samples::SAMPLE_COUNTS;
 use table_text::fields;
 
-// What a family is handed: the run's ledger, the samples', the number of its sample, and whether a line has named one.
+// What a family is handed: the run's ledger, the samples', and the sample that a line has named.
 #[derive(Clone, Copy)]
 pub struct Handed {
     pub ledger: Ledger,
-    pub samples: [u64; 1920],
-    pub sample: u32,
-    pub named: bool,
+    pub samples: [u64; SAMPLE_COUNTS],
+    pub sample: Option<u32>,
 }
 
-// Whether a line sets something, is malformed, or is none that stands in front of a family.
-#[derive(Drop)]
-pub enum Told {
-    Set,
-    Malformed,
-    Other,
+// What the first family of a file is handed, where no line in front of it sets anything.
+impl Default for Handed {
+    ghost is_default = { λ handed. handed ≡ fresh_handed };
+
+    fn default() -> Handed {
+        let ledger = Ledger::default();
+        let samples = [0; SAMPLE_COUNTS];
+        Handed {
+            ledger,
+            samples,
+            sample: None,
+        }
+    }
 }
 
-// What is handed after a line; before it too, unless the line sets something.
-#[derive(Drop)]
-pub struct Setting {
-    pub told: Told,
-    pub handed: Handed,
+// What a line sets: the run's ledger, a sample's, or which sample is named.
+#[derive(Clone, Copy)]
+pub enum Setting {
+    Run(Ledger),
+    Sample(usize, Ledger),
+    Name(u32),
 }
 
-fn ledger_from(values: [Value; line::FIELDS]) -> Ledger
-    ensures { result ≡ ledger_from values }
-{
-    let reasons = [
-        values[2].magnitude,
-        values[3].magnitude,
-        values[4].magnitude,
-        values[5].magnitude,
-        values[6].magnitude,
-        values[7].magnitude,
-        values[8].magnitude,
-        values[9].magnitude,
-        values[10].magnitude,
-        values[11].magnitude,
-    ];
-    Ledger {
-        families: values[0].magnitude,
-        records: values[1].magnitude,
-        reasons,
-        passed_over: values[12].magnitude,
-        no_strand: values[13].magnitude,
-        used: values[14].magnitude,
-        disagreement_rejected: values[15].magnitude,
-        duplexes: values[16].magnitude,
-        bases: values[17].magnitude,
-        duplex_bases: values[18].magnitude,
-        disagreements: values[19].magnitude,
+impl Handed {
+    pub fn set(&mut self, setting: Setting)
+        requires { Settable setting }
+        ensures { self.new ≡ set_by self.old setting }
+    {
+        match setting {
+            Setting::Run(ledger) => self.ledger = ledger,
+            Setting::Sample(sample, ledger) => {
+                samples::store_sample(&mut self.samples, sample, ledger);
+            }
+            Setting::Name(sample) => self.sample = Some(sample),
+        }
     }
 }
 
 // The twenty figures of a ledger, from a place of its line on.
-fn figures_at(line: &[u8], at: usize) -> Values
+fn figures_at(line: &[u8], at: usize) -> Option<Ledger>
     ensures { result ≡ figures_of (fields_from line.now at) }
 {
-    let limits = [18446744073709551615u64; 20];
-    line::read_fields(line, at, b"nnnnnnnnnnnnnnnnnnnn", &limits)
+    let mut counts = [0; COUNTS];
+    let n = numbers::read_column(line, at, &mut counts)?;
+    (n == COUNTS).then_some(Ledger::from(counts))
 }
 
-fn malformed(handed: Handed) -> Setting
-    ensures { result ≡ not_set handed }
+fn run_at(line: &[u8], at: usize) -> Option<Setting>
+    ensures { result ≡ run_of (fields_from line.now at) }
 {
-    Setting {
-        told: Told::Malformed,
-        handed,
-    }
+    Some(Setting::Run(figures_at(line, at)?))
 }
 
-fn set_run(line: &[u8], at: usize, handed: Handed) -> Setting
-    ensures { result ≡ run_set handed (figures_of (fields_from line.now at)) }
+fn sample_at(line: &[u8], at: usize) -> Option<Setting>
+    ensures value { result ≡ sample_of (fields_from line.now at) }
+    ensures settable { IfSome result Settable }
 {
-    let figures = figures_at(line, at);
-    if figures.well_formed {
-        let values = figures.values;
-        let samples = handed.samples;
-        return Setting {
-            told: Told::Set,
-            handed: Handed {
-                ledger: ledger_from(values),
-                samples,
-                sample: handed.sample,
-                named: handed.named,
-            },
-        };
-    }
-    malformed(handed)
+    let (sample, next) = fields::read_number(line, at, 95)?;
+    Some(Setting::Sample(sample as usize, figures_at(line, next)?))
 }
 
-fn set_sample(line: &[u8], at: usize, handed: Handed) -> Setting
-    ensures { result ≡ sample_read handed (number_field 95 (fields_from line.now at)) }
+fn name_at(line: &[u8], at: usize) -> Option<Setting>
+    ensures { result ≡ name_of (fields_from line.now at) }
 {
-    let Some((sample, next)) = fields::read_number(line, at, 95) else {
-        return malformed(handed);
-    };
-    let figures = figures_at(line, next);
-    if figures.well_formed {
-        let values = figures.values;
-        let ledger = handed.ledger;
-        let mut samples = handed.samples;
-        store_sample(&mut samples, sample as usize, ledger_from(values));
-        return Setting {
-            told: Told::Set,
-            handed: Handed {
-                ledger,
-                samples,
-                sample: handed.sample,
-                named: handed.named,
-            },
-        };
-    }
-    malformed(handed)
+    let (sample, next) = fields::read_number(line, at, 4294967295)?;
+    (line.len() < next).then_some(Setting::Name(sample as u32))
 }
 
-fn name_sample(line: &[u8], at: usize, handed: Handed) -> Setting
-    ensures { result ≡ name_read handed (number_field 4294967295 (fields_from line.now at)) }
+// What a line in front of a family sets, or that it is malformed; none where its tag is another. Each reader of a line answers an Option: where
+// the line began its caller knows.
+pub(crate) fn read_setting(line: &[u8]) -> Option<Option<Setting>>
+    ensures value { result ≡ setting_of line.now }
+    ensures settable { IfSome result (λ said. IfSome said Settable) }
 {
-    let Some((sample, next)) = fields::read_number(line, at, 4294967295) else {
-        return malformed(handed);
-    };
-    if next <= line.len() {
-        return malformed(handed);
+    if let Some(at) = line::read_tag(line, b"G") {
+        return Some(run_at(line, at));
     }
-    let ledger = handed.ledger;
-    let samples = handed.samples;
-    Setting {
-        told: Told::Set,
-        handed: Handed {
-            ledger,
-            samples,
-            sample: sample as u32,
-            named: true,
-        },
+    if let Some(at) = line::read_tag(line, b"N") {
+        return Some(name_at(line, at));
     }
-}
-
-// What a line in front of a family sets, by its tag.
-pub(crate) fn read_setting(line: &[u8], handed: Handed) -> Setting
-    ensures { result ≡ setting_of handed line.now }
-{
-    if let Tag::Until(at) = line::read_tag(line, b'G') {
-        return set_run(line, at, handed);
+    if let Some(at) = line::read_tag(line, b"GS") {
+        return Some(sample_at(line, at));
     }
-    if let Tag::Until(at) = line::read_tag(line, b'N') {
-        return name_sample(line, at, handed);
-    }
-    if let Tag::Until(at) = line::read_pair(line, b'G', b'S') {
-        return set_sample(line, at, handed);
-    }
-    Setting {
-        told: Told::Other,
-        handed,
-    }
+    None
 }

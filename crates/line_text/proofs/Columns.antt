@@ -1,32 +1,25 @@
 -- Laws of lines of numbers.
-use mathlib.Core.Bool.{Bool, true, false, cond}
-use mathlib.Core.List.{List, [], ◌∷◌, ◌++◌, append_assoc}
-use mathlib.Core.Path.{◌≡◌, refl, sym, ap}
-use Prim.Native.Nat.{ℕ, zero, suc, ◌-◌, ◌≤◌, ◌<◌}
-use native.Mathlib.Omega.{arith}
-use borrow.Author.Tests.{lt-ltb, le-ltb}
-use lib.Dec.{ltb}
-use lib.ListN.{get_or}
-use Rattle.std.specs.Prelude.{Option, Some, None}
-use Rattle.table_text.proofs.FieldLists.{same-read}
-use Rattle.table_text.proofs.Decimals.{number-le}
+use Rattle.std.proofs.Common.{◌≡◌, ◌+◌, ◌-◌, ◌≤◌, ◌<◌, ℕ, Bool, true, false, cond, ltb, List, [], ◌∷◌, ◌++◌, append_assoc, append-nil, length, take, set, map, refl, sym, ◌∙◌, ap, arith, Option, Some, None}
+use Rattle.std.proofs.lemmas.Bool.{lt-ltb, le-ltb, ltb-true, ltb-false}
+use Rattle.std.proofs.lemmas.List.{take_more_set, take_all, map-append}
+use Rattle.std.specs.Bool.{then_some}
+use Rattle.std.specs.Option.{option_map}
+use Rattle.table_text.proofs.FieldLists.{same-read, fields_none, fields_some}
 use Rattle.table_text.specs.Decimal.{number}
-use Rattle.table_text.specs.Fields.{Read, number_field, value_of, fields_of}
-use Rattle.line_text.specs.Line.{tag_field}
-use Rattle.line_text.specs.Numbers.{number_then, numbers_of, numbers_after, numbers_line}
-use Rattle.line_text.specs.Parsed.{Parsed, parsed, unparsed, after}
+use Rattle.table_text.specs.Fields.{number_field, value_of, fields_from}
+use Rattle.line_text.specs.Numbers.{after, number_then, numbers_of}
 
-pub after_none : {A : Type 0} (r : Parsed (List A)) → after [] r ≡ r
-after_none (parsed xs) = refl
-after_none unparsed = refl
+pub after_none : (r : Option (List ℕ)) → after [] r ≡ r
+after_none (Some xs) = refl
+after_none None = refl
 
-pub after_more : {A : Type 0} (xs ys : List A) (r : Parsed (List A)) → after xs (after ys r) ≡ after (xs ++ ys) r
-after_more xs ys (parsed zs) = ap parsed (sym (append_assoc xs ys zs))
-after_more xs ys unparsed = refl
+after_more : (xs ys : List ℕ) (r : Option (List ℕ)) → after xs (after ys r) ≡ after (xs ++ ys) r
+after_more xs ys (Some zs) = ap Some (sym (append_assoc xs ys zs))
+after_more xs ys None = refl
 
 module _ (room limit : ℕ) where
   -- the next number, and those after it
-  pub numbers_next : (fields rest : List (List ℕ)) (v : ℕ) → 0 < room → Some (v, rest) ≡ number_field limit fields → numbers_of room limit fields ≡ after (v ∷ []) (numbers_of (room - 1) limit rest)
+  numbers_next : (fields rest : List (List ℕ)) (v : ℕ) → 0 < room → Some (v, rest) ≡ number_field limit fields → numbers_of room limit fields ≡ after (v ∷ []) (numbers_of (room - 1) limit rest)
   unfolding numbers_of number_field
   numbers_next [] rest v h e = absurd cc
   numbers_next (field ∷ fields) rest v h e = rw (lt-ltb 0 room h) (go (number limit field) e)
@@ -37,50 +30,54 @@ module _ (room limit : ℕ) where
           rw (same.0, same.1)
       go None f = absurd cc
 
-  pub numbers_stop : (field : List ℕ) (fields : List (List ℕ)) → None ≡ number_field limit (field ∷ fields) → numbers_of room limit (field ∷ fields) ≡ unparsed
+  numbers_stop : (field : List ℕ) (fields : List (List ℕ)) → None ≡ number_field limit (field ∷ fields) → numbers_of room limit (field ∷ fields) ≡ None
   unfolding numbers_of number_field
-  numbers_stop field fields e = go (number limit field) e
+  numbers_stop field fields e = go (ltb 0 room) (number limit field) e
     where
-      both : (t : Bool) → ◌≡◌ {A = Parsed (List ℕ)} (cond t unparsed unparsed) unparsed
-      both true = refl
-      both false = refl
-
-      go : (n : Option ℕ) → None ≡ value_of n fields → cond (ltb 0 room) (number_then n (numbers_of (room - 1) limit fields)) unparsed ≡ unparsed
-      go (Some w) f = absurd cc
-      go None f = both (ltb 0 room)
+      go : (t : Bool) (n : Option ℕ) → None ≡ value_of n fields → cond t (number_then n (numbers_of (room - 1) limit fields)) None ≡ None
+      go true (Some w) f = absurd cc
+      go true None f = refl
+      go false n f = refl
 
 -- there is no room for a field
-pub numbers_full : (room limit : ℕ) (field : List ℕ) (fields : List (List ℕ)) → room ≤ 0 → numbers_of room limit (field ∷ fields) ≡ unparsed
+numbers_full : (room limit : ℕ) (field : List ℕ) (fields : List (List ℕ)) → room ≤ 0 → numbers_of room limit (field ∷ fields) ≡ None
 unfolding numbers_of
 numbers_full room limit field fields h = rw (le-ltb 0 room h)
 
-pub numbers_none : (room limit : ℕ) → numbers_of room limit [] ≡ parsed []
+numbers_none : (room limit : ℕ) → numbers_of room limit [] ≡ Some []
 unfolding numbers_of
 numbers_none room limit = refl
 
--- each number is within the limit
-numbers_within : (room limit : ℕ) (fields : List (List ℕ)) (ns : List ℕ) → numbers_of room limit fields ≡ parsed ns → (k : ℕ) → get_or ns k 0 ≤ limit
-unfolding numbers_of
-numbers_within room limit [] ns e k = let none : ns ≡ [] = cc in rw none (omega arith)
-numbers_within room limit (field ∷ fields) ns e k = go (ltb 0 room) (number limit field) refl (numbers_of (room - 1) limit fields) (λ ms f. numbers_within (room - 1) limit fields ms f) e
-  where
-    behind : (v : ℕ) → v ≤ limit → (x : Parsed (List ℕ)) → ((ms : List ℕ) → x ≡ parsed ms → (k : ℕ) → get_or ms k 0 ≤ limit) → after (v ∷ []) x ≡ parsed ns → get_or ns k 0 ≤ limit
-    behind v h (parsed ms) each f = let same : ns ≡ v ∷ ms = cc in rw same (at k)
-      where
-        at : (j : ℕ) → get_or (v ∷ ms) j 0 ≤ limit
-        at zero = h
-        at (suc j) = each ms refl j
-    behind v h unparsed each f = absurd cc
+-- the numbers of the fields passed stand in the first places of a column
+module _ {A : Type 0} (value : A → ℕ) (limit : ℕ) (line : List ℕ) (column : List A) (n at : ℕ) (all : Option (List ℕ))
+    (so_far : all ≡ after (map value (take n column)) (numbers_of (length column - n) limit (fields_from line at))) where
+  pub goes_on : (x : A) (v next : ℕ) → n < length column → value x ≡ v → Some (v, fields_from line next) ≡ number_field limit (fields_from line at)
+      → all ≡ after (map value (take (n + 1) (set column n x))) (numbers_of (length column - (n + 1)) limit (fields_from line next))
+  goes_on x v next h is e =
+      let less : length column - n - 1 ≡ length column - (n + 1) = omega arith in
+      let next_one = numbers_next (length column - n) limit (fields_from line at) (fields_from line next) v (omega arith) e in
+      so_far ∙ rw (next_one, less, take_more_set column n x h, map-append value (take n column) (x ∷ []), is) (after_more (map value (take n column)) (v ∷ []) (numbers_of (length column - (n + 1)) limit (fields_from line next)))
 
-    go : (t : Bool) (n : Option ℕ) → number limit field ≡ n → (x : Parsed (List ℕ)) → ((ms : List ℕ) → x ≡ parsed ms → (k : ℕ) → get_or ms k 0 ≤ limit) → cond t (number_then n x) unparsed ≡ parsed ns → get_or ns k 0 ≤ limit
-    go true (Some v) is x each f = behind v (number-le limit field v is) x each f
-    go true None is x each f = absurd cc
-    go false n is x each f = absurd cc
+  pub stops : at ≤ length line → None ≡ number_field limit (fields_from line at) → None ≡ all
+  stops inside e =
+      let first = fields_some line at inside in
+      rw (so_far, first.2, numbers_stop (length column - n) limit first.0 first.1 (rw first.2 at e))
 
-pub line_within : (tag limit room : ℕ) (line ns : List ℕ) → numbers_line tag limit room line ≡ parsed ns → (k : ℕ) → get_or ns k 0 ≤ limit
-unfolding numbers_line
-line_within tag limit room line ns e = go (tag_field tag (fields_of line)) e
-  where
-    go : (x : Read ℕ) → numbers_after limit room x ≡ parsed ns → (k : ℕ) → get_or ns k 0 ≤ limit
-    go (Some (b, fields)) f = numbers_within room limit fields ns f
-    go None f = absurd cc
+  full : at ≤ length line → length column ≤ n → all ≡ None
+  full inside h =
+      let first = fields_some line at inside in
+      let none : length column - n ≤ 0 = omega arith in
+      so_far ∙ rw (first.2, numbers_full (length column - n) limit first.0 first.1 none)
+
+  pub ends : length line < at → Some (map value (take n column)) ≡ all
+  ends past = rw (so_far, fields_none line at past, numbers_none (length column - n) limit, append-nil (map value (take n column)))
+
+  -- the column is full: a field more has no room
+  pub decided : length column ≤ n → option_map (λ k. map value (take k column)) (then_some (ltb (length line) at) (length column)) ≡ all
+  decided h = go (ltb (length line) at) refl
+    where
+      go : (t : Bool) → ltb (length line) at ≡ t → option_map (λ k. map value (take k column)) (then_some t (length column)) ≡ all
+      go true e =
+          let whole : take (length column) column ≡ take n column = rw (take_all n column h, take_all (length column) column (omega arith)) in
+          rw whole (ends (ltb-true (length line) at e))
+      go false e = sym (full (ltb-false (length line) at e) h)

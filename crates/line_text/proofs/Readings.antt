@@ -1,64 +1,80 @@
 -- Laws of reading a text line by line.
-use mathlib.Core.List.{List, [], ◌++◌, append_assoc}
-use mathlib.Core.Path.{◌≡◌, refl, sym, ◌∙◌, ap}
-use Prim.Native.Nat.{ℕ, ◌+◌, ◌-◌, ◌≤◌, ◌<◌}
-use lib.ListN.{length, take, drop}
-use Rattle.table_text.specs.Bytes.{index_of}
-use Rattle.table_text.proofs.Partings.{part_ended, part_last}
-use Rattle.table_text.specs.Parts.{Parts}
-use Rattle.line_text.specs.Parsed.{Parsed}
-use Rattle.line_text.specs.Reading.{Reading, got, wrong, cut, and_next, mapped, applied, got_after, line_then, one_line, lines_from, stop_in, next_in, from_next, Steps}
-use Rattle.line_text.specs.declared.lines.Next.TheVariants.{Until, Stopped}
-use Rattle.line_text.specs.declared.lines.Next.{Next}
-use Rattle.line_text.specs.declared.lines.Stop.TheVariants.{Malformed, Cut}
+use Rattle.std.proofs.Common.{◌≡◌, ◌≤◌, ℕ, List, [], ◌++◌, length, refl, sym, ◌∙◌, ap, append_assoc, Option, Some, None, Result, Ok, Err}
+use Rattle.std.specs.Borrow.{Bor}
+use Rattle.std.specs.Option.{option_map, ok_or}
+use Rattle.table_text.specs.Parts.{Parts, last, ended}
+use Rattle.line_text.specs.Reading.{Unread, wrong, cut, Reading, got_after, one_line, any_line, lines_from, unread_in, Reads, ReadsLine, LineSaid, says, says_nothing, is_cut}
 use Rattle.line_text.specs.declared.lines.Stop.{Stop}
+use Rattle.line_text.specs.declared.lines.Stop.TheVariants.{Malformed, Cut}
 
-module _ {A : Type 0} (of : List ℕ → Parsed A) (text : List ℕ) (at end : ℕ) (is : end ≡ at + index_of 10 (drop at text)) (inside : at ≤ length text) where
-  -- a line that is not ended
-  pub line_cut : length text ≤ end → one_line of (lines_from text at) ≡ cut (lines_from text at)
+-- it is ended, and other lines are after it
+line_is : (p : Parts) (line : List ℕ) (rest : Parts) → Ok (line, rest) ≡ any_line p → p ≡ ended line rest
+unfolding one_line
+line_is (last part) line rest e = absurd cc
+line_is (ended text more) line rest e =
+    let both : ◌≡◌ {A = List ℕ × Parts} (line, rest) (text, more) = cc in
+    rw (ap (λ (r : List ℕ × Parts). r.0) both, ap (λ (r : List ℕ × Parts). r.1) both)
+
+-- or nothing is after it
+last_is : (p : Parts) (unread : Unread) → Err unread ≡ any_line p → (part : List ℕ) × (p ≡ last part) × (unread ≡ cut p)
+unfolding one_line
+last_is (last part) unread e = (part, refl, cc)
+last_is (ended line more) unread e = absurd cc
+
+module _ (text : List ℕ) (at : ℕ) where
+  pub line_ended : (line : Bor (List ℕ)) (after : ℕ) → ReadsLine text at (Ok (line, after)) → lines_from text at ≡ ended line.now (lines_from text after)
+  line_ended line after read = line_is (lines_from text at) line.now (lines_from text after) read.same
+
+  pub line_last : (stop : Stop) → ReadsLine text at (Err stop) → (part : List ℕ) × (lines_from text at ≡ last part) × (unread_in text stop ≡ cut (lines_from text at))
+  line_last stop read = last_is (lines_from text at) (unread_in text stop) read.same
+
+module _ {A B : Type 0} (of : List ℕ → Option A) (shown : B → A) (text : List ℕ) (at : ℕ) where
+  -- the text ends in the line
+  pub line_stops : (stop : Stop) → ReadsLine text at (Err stop) → Reads shown text (Err stop) (one_line of (lines_from text at))
   unfolding one_line
-  line_cut h = rw (part_last 10 text at end is inside h)
+  line_stops stop read =
+      let found = line_last text at stop read in
+      record { same = ap Err found.2 ∙ rw found.1; within = read.within }
 
-  -- a line, and those after it
-  pub line_ended : end < length text → one_line of (lines_from text at) ≡ line_then (lines_from text at) (lines_from text (end + 1)) (of (take (end - at) (drop at text)))
-  unfolding one_line
-  line_ended h = rw (part_ended 10 text at end is h)
+  module _ (line : Bor (List ℕ)) (after : ℕ) (read : ReadsLine text at (Ok (line, after))) where
+    -- the line says nothing
+    pub line_wrong : at ≤ length text → of line.now ≡ None → Reads shown text (Err (Malformed at)) (one_line of (lines_from text at))
+    unfolding one_line
+    line_wrong inside e = record { same = rw (line_ended text at line after read, e); within = inside }
 
-module _ {A B : Type 0} (text : List ℕ) where
-  -- where the first stops nothing is read after it
-  pub next-stopped : (stop : Stop) (second : A → Parts → Reading B) → and_next (stop_in text stop) second ≡ stop_in text stop
-  next-stopped (Malformed at) second = refl
-  next-stopped (Cut at) second = refl
+    -- the line says what is shown
+    pub line_says : (b : B) → of line.now ≡ Some (shown b) → Reads shown text (Ok (b, after)) (one_line of (lines_from text at))
+    unfolding one_line
+    line_says b e = record { same = rw (line_ended text at line after read, e); within = read.within }
+
+-- a line that is not ended is not read
+pub line_unended : {T : Type 0} (said : Bor (List ℕ) → Option T → Type 0) (text : List ℕ) (at : ℕ) (stop : Stop) → ReadsLine text at (Err stop) → LineSaid said text at (Err stop)
+line_unended said text at (Malformed place) read = absurd (never (line_last text at (Malformed place) read).2)
+  where
+    never : wrong (lines_from text place) ≡ cut (lines_from text at) → ⊥
+    never e = cc
+line_unended said text at (Cut place) read = is_cut read
+
+-- what is said of a line is what the line says
+pub line_reads : {A T : Type 0} {said : Bor (List ℕ) → Option T → Type 0} (of : List ℕ → Option A) (shown : T → A) {text : List ℕ} {at : ℕ} {r : Result (T × ℕ) Stop}
+    → ((line : Bor (List ℕ)) (a : Option T) → said line a → option_map shown a ≡ of line.now) → at ≤ length text → LineSaid said text at r → Reads shown text r (one_line of (lines_from text at))
+line_reads of shown {text} {at} means inside (says {line} {a} {after} read p) = line_says of shown text at line after read a (sym (means line (Some a) p))
+line_reads of shown {text} {at} means inside (says_nothing {line} {after} read p) = line_wrong of shown text at line after read inside (sym (means line None p))
+line_reads of shown {text} {at} means inside (is_cut {place} read) = line_stops of shown text at (Cut place) read
 
 pub got_none : {A : Type 0} (r : Reading (List A)) → got_after [] r ≡ r
-got_none (got xs rest) = refl
-got_none (wrong rest) = refl
-got_none (cut rest) = refl
+got_none (Ok (xs, rest)) = refl
+got_none (Err unread) = refl
 
 pub got_more : {A : Type 0} (xs ys : List A) (r : Reading (List A)) → got_after xs (got_after ys r) ≡ got_after (xs ++ ys) r
-got_more {A} xs ys (got zs rest) = ap (λ (l : List A). got l rest) (sym (append_assoc xs ys zs))
-got_more xs ys (wrong rest) = refl
-got_more xs ys (cut rest) = refl
+got_more {A} xs ys (Ok (zs, rest)) = ap (λ (l : List A). Ok (l, rest)) (sym (append_assoc xs ys zs))
+got_more xs ys (Err unread) = refl
 
-module _ {A B : Type 0} (text : List ℕ) where
-  next-mapped : (f : A → B) (a : A) (r : Next) → mapped f (next_in text a r) ≡ next_in text (f a) r
-  next-mapped f a (Until at) = refl
-  next-mapped f a (Stopped (Malformed at)) = refl
-  next-mapped f a (Stopped (Cut at)) = refl
+-- an option that gives the error is none
+pub ok_or_err : {A E : Type 0} (o : Option A) (d e : E) → Err e ≡ ok_or o d → (o ≡ None) × (e ≡ d)
+ok_or_err (Some x) d e f = absurd cc
+ok_or_err None d e f = (refl, cc)
 
-  mapped_from : (f : A → B) (n : Next) (second : Parts → Reading A) → mapped f (from_next text n second) ≡ applied (next_in text f n) second
-  mapped_from f (Until at) second = refl
-  mapped_from f (Stopped (Malformed at)) second = refl
-  mapped_from f (Stopped (Cut at)) second = refl
-
-  -- another value in place of the one that is read
-  pub steps_mapped : (f : A → B) (a : A) (r : Next) (first : Reading A) → Steps text a r first → Steps text (f a) r (mapped f first)
-  steps_mapped f a r first step = record { same = rw (← step.same) (sym (next-mapped f a r)); within = step.within }
-
-  -- the second begins where the first ends, and does not begin where the first stops
-  pub steps_applied : (f : A → B) (a : A) (n r : Next) (first : Reading (A → B)) (second : Parts → Reading A) → Steps text f n first → Steps text a r (from_next text n second)
-      → Steps text (f a) r (applied first second)
-  steps_applied f a n r first second step more = record {
-    same = sym (next-mapped f a r) ∙ ap (mapped f) more.same ∙ rw (← step.same) (mapped_from f n second);
-    within = more.within;
-  }
+pub ok_or_ok : {A E : Type 0} (o : Option A) (d : E) (x : A) → Ok x ≡ ok_or o d → o ≡ Some x
+ok_or_ok (Some y) d x f = cc
+ok_or_ok None d x f = absurd cc

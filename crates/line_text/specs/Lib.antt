@@ -2,6 +2,5 @@ pub mod Bases
 pub mod Fit
 pub mod Line
 pub mod Numbers
-pub mod Parsed
 pub mod Reading
 pub mod Value

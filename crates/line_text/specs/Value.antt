@@ -1,53 +1,60 @@
 -- The text form: numbers are decimals without leading zeros; a signed number may begin with `-`; a lone `-` means none.
-use Rattle.std.specs.Prelude.{true, false, cond, ◌&&◌, List, [], ◌∷◌, ℕ, ◌+◌, leb, eqb, Option, Some, None}
+use Rattle.std.specs.Prelude.{Bool, true, false, cond, ◌&&◌, List, [], ◌∷◌, ℕ, ◌+◌, leb, take, drop, Option, Some, None}
 use Prim.Native.Char.{code}
+use Rattle.std.specs.Option.{option_map}
+use Rattle.std.specs.Str.{bytes_eq}
 use Rattle.table_text.specs.Decimal.{number}
-use Rattle.table_text.specs.Fields.{Read, fields_from}
+use Rattle.table_text.specs.Fields.{Read}
+use Rattle.line_text.specs.declared.value.Kind.{Kind}
+use Rattle.line_text.specs.declared.value.Kind.TheVariants.{Plain, OrNone, Signed}
 use Rattle.line_text.specs.declared.value.Value.{Value}
-use Rattle.line_text.specs.declared.value.FieldValue.{FieldValue}
-use Rattle.line_text.specs.declared.value.FieldValue.TheVariants.{Found, Malformed}
-use Rattle.line_text.specs.declared.value.ValueField.{ValueField}
-use Rattle.line_text.specs.declared.value.ValueField.TheVariants as fields
+use Rattle.line_text.specs.declared.value.Value.TheVariants.{Nothing, Number, Below}
 
--- a lone `-`
-abbrev pub none : Value
-none = record { present = false; negative = false; magnitude = 0 }
+-- how far it is from 0; of none, 0
+abbrev pub magnitude : Value → ℕ
+magnitude Nothing = 0
+magnitude (Number n) = n
+magnitude (Below n) = n
+
+-- it is not none
+abbrev pub is_number : Value → Bool
+is_number Nothing = false
+is_number (Number n) = true
+is_number (Below n) = true
 
 -- a number from 0 on
-abbrev pub plainly : Option ℕ → FieldValue
-plainly (Some v) = Found (record { present = true; negative = false; magnitude = v })
-plainly None = Malformed
+abbrev pub plainly : ℕ → List ℕ → Option Value
+plainly limit field = option_map Number (number limit field)
+
+-- a lone `-`, or a number
+unfoldable pub or_none : ℕ → List ℕ → Option Value
+or_none limit field = cond (bytes_eq field (code "-" ∷ [])) (Some Nothing) (plainly limit field)
 
 -- a number below 0: from -1 down to one beyond the limit
-abbrev pub negated : ℕ → Option ℕ → FieldValue
-negated limit (Some v) = cond (leb 1 v && leb v (limit + 1)) (Found (record { present = true; negative = true; magnitude = v })) Malformed
-negated limit None = Malformed
+abbrev pub negated : ℕ → Option ℕ → Option Value
+negated limit (Some v) = cond (leb 1 v && leb v (limit + 1)) (Some (Below v)) None
+negated limit None = None
 
 -- its digits are those of a number of 64 bits
-unfoldable pub below : ℕ → List ℕ → FieldValue
+unfoldable pub below : ℕ → List ℕ → Option Value
 below limit digits = negated limit (number 18446744073709551615 digits)
 
--- after a `-`: nothing, where none is allowed, or digits, where a sign is
-unfoldable pub after_dash : ℕ → ℕ → List ℕ → FieldValue
-after_dash kind limit [] = cond (eqb kind (code "o")) (Found none) Malformed
-after_dash kind limit (b ∷ bs) = cond (eqb kind (code "s")) (below limit (b ∷ bs)) Malformed
+-- digits after a `-`, or a number
+unfoldable pub signed : ℕ → List ℕ → Option Value
+signed limit field = cond (bytes_eq (take 1 field) (code "-" ∷ [])) (below limit (drop 1 field)) (plainly limit field)
 
--- the value of a field of a kind: `n` a number, `o` a number or none, `s` a number with a sign; at most the limit
-unfoldable pub field_value : ℕ → ℕ → List ℕ → FieldValue
-field_value kind limit [] = Malformed
-field_value kind limit (b ∷ bs) = cond (eqb b (code "-")) (after_dash kind limit bs) (plainly (number limit (b ∷ bs)))
+-- the value of a field of a kind; a number is at most its limit
+unfoldable pub field_value : Kind → List ℕ → Option Value
+field_value (Plain limit) field = plainly limit field
+field_value (OrNone limit) field = or_none limit field
+field_value (Signed limit) field = signed limit field
 
 -- a field's value, with the fields after it
-abbrev pub value_then : FieldValue → List (List ℕ) → Read Value
-value_then (Found v) rest = Some (v, rest)
-value_then Malformed rest = None
+abbrev pub value_then : Option Value → List (List ℕ) → Read Value
+value_then (Some v) rest = Some (v, rest)
+value_then None rest = None
 
 -- the value of the first of some fields
-unfoldable pub value_field : ℕ → ℕ → List (List ℕ) → Read Value
-value_field kind limit [] = None
-value_field kind limit (field ∷ rest) = value_then (field_value kind limit field) rest
-
--- an answer about a line, with the fields from its place on
-abbrev pub value_in : List ℕ → ValueField → Read Value
-value_in line (fields.Found v next) = Some (v, fields_from line next)
-value_in line fields.Malformed = None
+unfoldable pub value_field : Kind → List (List ℕ) → Read Value
+value_field kind [] = None
+value_field kind (field ∷ rest) = value_then (field_value kind field) rest

@@ -1,20 +1,17 @@
 -- Laws of counting the numbers below a bound that meet a test.
 use mathlib.Core.Bool.{Bool, true, false, cond, not}
-use lib.ListN.{length, get_or}
-use mathlib.Core.List.{List, map}
 use mathlib.Core.Logic.{⊎_elim}
-use mathlib.Core.Path.{◌≡◌, refl, ◌∙◌, ap}
+use mathlib.Core.Path.{◌≡◌, refl}
 use Prim.Native.Nat.{ℕ, zero, suc, ◌+◌, ◌≤◌, ◌<◌, zero-le}
-use native.Mathlib.Nat.{add-zero, zero-add, eq-or-lt_of_le, le_of_suc-le-suc}
+use native.Mathlib.Nat.{add-zero, eq-or-lt_of_le, le_of_suc-le-suc}
 use native.Mathlib.Numerals.{add-one}
 use native.Mathlib.Omega.{arith}
 use borrow.Author.Tests.{eq-eqb, ne_eqb}
 use lib.Dec.{eqb}
 use Rattle.std.proofs.lemmas.List.{map-id}
-use Rattle.std.proofs.lemmas.List.FromFn.{length-range_with_len, sum_by-map-range_with_len_more, fill_by_all, length-enumerate_from, get_or-enumerate_from}
-use Rattle.std.proofs.lemmas.List.Folds.{fold-map}
+use Rattle.std.proofs.lemmas.List.FromFn.{length-range_with_len, sum_by-map-range_with_len_more}
 use Rattle.std.proofs.lemmas.List.Sums.{count_by-le-length}
-use Rattle.std.specs.List.{range_with_len, enumerate_from, count_by}
+use Rattle.std.specs.List.{range_with_len}
 use Rattle.lists.specs.Count.{count_below}
 
 -- one number more, whether or not it meets the test
@@ -68,19 +65,6 @@ count-without test x (suc n) h meets =
     rw (← here, eq-eqb x x refl, meets) (omega (arith, others)))
     (λ before. rw (ne_eqb n x (λ e. omega arith)) (omega (arith, count-without test x n before meets)))
     (eq-or-lt_of_le (le_of_suc-le-suc h)))
-
--- counting the elements of a list with their places is counting the places
-pub count_enumerated : {A : Type 0} (p : ℕ × A → Bool) (xs : List A) (d : A) → count_by p (enumerate_from 0 xs) ≡ count_below (λ j. p (j, get_or xs j d)) (length xs)
-unfolding count_below
-count_enumerated {A} p xs d = ap (count_by p) places ∙ fold-map (λ (n : ℕ) (x : ℕ × A). n + cond (p x) 1 0) place 0 (range_with_len 0 (length xs))
-  where
-    place : ℕ → ℕ × A
-    place j = (j, get_or xs j d)
-
-    places : enumerate_from 0 xs ≡ map place (range_with_len 0 (length xs))
-    places =
-        fill_by_all place (enumerate_from 0 xs) (length xs) (0, d) (length-enumerate_from 0 xs)
-        (λ j h. rw (get_or-enumerate_from 0 xs j (0, d), zero-add))
 
 -- where every number that meets a test is sent to one of its own that meets another
 pub count_into : (test other : ℕ → Bool) (f : ℕ → ℕ) (m n : ℕ)

@@ -4,12 +4,10 @@ pub mod Every
 pub mod Map
 pub mod Member
 pub mod Numbers
-pub mod Parts
 pub mod Places
 pub mod Reverse
 pub mod Sets
 pub mod Table
 pub mod Tabulate
 pub mod Total
-pub mod Turning
 pub mod Written

@@ -1,13 +1,13 @@
 -- Laws of a list whose elements are mapped.
 use mathlib.Core.List.{List, [], ◌∷◌, ◌++◌, map, map-append}
 use mathlib.Core.Path.{◌≡◌, subst}
-use Prim.Native.Nat.{ℕ, ◌+◌, ◌≤◌, ◌<◌}
+use Prim.Native.Nat.{ℕ, ◌+◌, ◌<◌}
 use native.Mathlib.Numerals.{add-one}
 use native.Mathlib.Omega.{arith}
 use lib.ListN.{length, get_or, set, take, length-map}
 use lib.Seq.{take-suc, length-take-le}
 use Rattle.lists.specs.Written.{written}
-use Rattle.lists.proofs.Written.{written_more, length-written}
+use Rattle.lists.proofs.Written.{written_more}
 
 module _ {A B : Type 0} (f : A → B) where
   -- a column that the mapped elements are written to, one more a turn
@@ -27,8 +27,3 @@ module _ {A B : Type 0} (f : A → B) where
       rw (e, g, add-one, take-suc xs i d)
       (subst (λ (k : ℕ). set (written (map f (take i xs)) old) k (f (get_or xs i d)) ≡ written (map f (take i xs ++ (get_or xs i d ∷ []))) old) n
       (written-map_more (take i xs) (get_or xs i d) old (rw n room)))
-
-  pub length-written-map : (xs : List A) (old : List B) {col : List B} (i : ℕ) → i ≤ length xs → i ≤ length old → col ≡ written (map f (take i xs)) old → length col ≡ length old
-  length-written-map xs old i h room e =
-      let n : length (take i xs) ≡ i = length-take-le i xs h in
-      rw e (length-written (map f (take i xs)) old (rw (length-map (take i xs) f, n) room))

@@ -4,7 +4,7 @@ use mathlib.Core.List.{List, [], ◌∷◌}
 use mathlib.Core.Path.{◌≡◌, refl, subst}
 use Prim.Native.Nat.{ℕ, zero, suc, ◌+◌, ◌<◌}
 use native.Mathlib.Omega.{arith}
-use borrow.Author.Tests.{eqb-true, eqb-false, eq-eqb}
+use borrow.Author.Tests.{eqb-true, eqb-false}
 use lib.Dec.{eqb}
 use lib.ListN.{length, get_or, length-map}
 use Rattle.std.proofs.lemmas.List.{get_or-map}
@@ -50,12 +50,6 @@ field_says right given = base (eqb right.base given.base) refl
         → FieldSays right given (cond t (cond (eqb right.quality given.quality) (cond (eqb right.depth given.depth) (cond (eqb right.error given.error) None (Some Error)) (Some Depth)) (Some Quality)) (Some Base))
     base true e = quality (eqb-true _ _ e) (eqb right.quality given.quality) refl
     base false e = eqb-false _ _ e
-
--- of four equal fields none is wrong
-pub same_none : (right given : Position) → SameFields right given → first_wrong_field right given ≡ None
-unfolding first_wrong_field
-same_none right given same =
-    rw (eq-eqb right.base given.base same.0, eq-eqb right.quality given.quality same.1, eq-eqb right.depth given.depth same.2, eq-eqb right.error given.error same.3)
 
 -- what an answer says of equally many positions, the first of them in the line of that number
 abbrev ListsSay : ℕ → (right given : List Position) → Result Unit Fault → Type 0

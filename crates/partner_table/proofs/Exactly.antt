@@ -113,10 +113,3 @@ module _ (ours theirs : List ℕ) where
 
   pub right_accepted : Right ours theirs → checked ours theirs ≡ Ok tt
   right_accepted right = says_given (Ok tt) right
-
-  -- wrong at a line and a field if and only if all before them is right and they are not
-  pub wrong_first : (line : ℕ) (field : Field) → checked ours theirs ≡ Err (Wrong line field) → FirstWrong ours theirs line field
-  wrong_first line field e = given_says (Err (Wrong line field)) e
-
-  pub first_wrong_lem : (line : ℕ) (field : Field) → FirstWrong ours theirs line field → checked ours theirs ≡ Err (Wrong line field)
-  first_wrong_lem line field first = says_given (Err (Wrong line field)) first

@@ -27,6 +27,7 @@ pub fn first_wrong_field(right: Position, given: Position) -> Option<Field>
 }
 
 // The first wrong line of those that both tables have, where line 2 begins at `start` in ours and at `given` in theirs.
+// The end of a row says where the next begins, in each table for itself: no range and no chain has these places.
 fn compare_lines(ours: &[u8], start: usize, theirs: &[u8], given: usize) -> Result<(), Fault>
     requires { (start ≤ length ours.now) × (given ≤ length theirs.now) }
     ensures { result ≡ first_wrong 2 (combined_rows (table_from ours.now 2 start).rows) (partner_from theirs.now 2 given).rows }

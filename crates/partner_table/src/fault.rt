@@ -4,42 +4,35 @@ ghost use Rattle.partner_table.specs.Reported.{field_number, table_number};
 
 use std::fmt;
 
-// Whose table it is.
+// Whose table it is, by the number that a host is told.
 #[derive(Clone, Copy, Debug, PartialEq, Eq)]
 pub enum Whose {
-    Ours,
-    Theirs,
+    Ours = 1,
+    Theirs = 2,
 }
 
-impl Whose {
-    pub fn number(self) -> u32
-        ensures { result ≡ table_number self }
-    {
-        match self {
-            Whose::Ours => 1,
-            Whose::Theirs => 2,
-        }
+impl From<Whose> for u32 {
+    ghost from_gives = { λ whose n. n ≡ table_number whose };
+
+    fn from(whose: Whose) -> u32 {
+        whose as u32
     }
 }
 
+// A field of a line, by its place.
 #[derive(Clone, Copy, Debug, PartialEq, Eq)]
 pub enum Field {
-    Base,
-    Quality,
-    Depth,
-    Error,
+    Base = 1,
+    Quality = 2,
+    Depth = 3,
+    Error = 4,
 }
 
-impl Field {
-    pub fn number(self) -> u32
-        ensures { result ≡ field_number self }
-    {
-        match self {
-            Field::Base => 1,
-            Field::Quality => 2,
-            Field::Depth => 3,
-            Field::Error => 4,
-        }
+impl From<Field> for u32 {
+    ghost from_gives = { λ field n. n ≡ field_number field };
+
+    fn from(field: Field) -> u32 {
+        field as u32
     }
 }
 
@@ -54,9 +47,9 @@ pub enum Fault {
 impl fmt::Display for Fault {
     fn fmt<W: fmt::Write>(&self, f: &mut fmt::Formatter<W>) -> fmt::Result {
         match *self {
-            Fault::Malformed { whose, line } => write!(f, "refused 27 {line} {}", whose.number()),
+            Fault::Malformed { whose, line } => write!(f, "refused 27 {line} {}", u32::from(whose)),
             Fault::UnequalLines => f.write_str("refused 28 0"),
-            Fault::Wrong { line, field } => write!(f, "wrong {line} {}", field.number()),
+            Fault::Wrong { line, field } => write!(f, "wrong {line} {}", u32::from(field)),
         }
     }
 }

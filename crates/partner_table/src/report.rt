@@ -6,7 +6,7 @@ ghost use Rattle.partner_table.specs.Reported.{reported_check};
 use crate::compare::check_tables;
 use crate::fault::Fault;
 
-// Kind 0 is accepted; 1 has a line and a field, 2 a refusal's number, a line and its table.
+// Numbers, since no enum crosses the C interface: kind 0 is accepted; 1 has a line and a field, 2 a refusal's number, a line and its table.
 #[repr(C)]
 #[derive(Clone, Copy, Debug, PartialEq, Eq)]
 pub struct PartnerAnswer {
@@ -33,14 +33,14 @@ impl From<Result<(), Fault>> for PartnerAnswer {
             Err(Fault::Wrong { line, field }) => PartnerAnswer {
                 kind: 1,
                 line: line as u64,
-                field: field.number(),
+                field: u32::from(field),
                 ..accepted
             },
             Err(Fault::Malformed { whose, line }) => PartnerAnswer {
                 kind: 2,
                 number: 27,
                 line: line as u64,
-                table: whose.number(),
+                table: u32::from(whose),
                 ..accepted
             },
             Err(Fault::UnequalLines) => PartnerAnswer {

@@ -14,14 +14,19 @@ simple_entry word = op_length word * 16 + kind_of (op_code word)
 abbrev pub joined_word : ℕ → ℕ → ℕ
 joined_word x y = (op_length x + op_length y) * 16 + op_code x
 
--- an entry put before a list: joined with the first entry where that is of its kind
-unfoldable pub prepend : ℕ → List ℕ → List ℕ
-prepend x [] = x ∷ []
-prepend x (y ∷ ys) = cond (eqb (op_code x) (op_code y)) (joined_word x y ∷ ys) (x ∷ y ∷ ys)
+-- an entry put before a list: joined with the first entry where neighbours of their kinds join
+unfoldable pub prepend_by : (joins : ℕ → ℕ → Bool) → ℕ → List ℕ → List ℕ
+prepend_by joins x [] = x ∷ []
+prepend_by joins x (y ∷ ys) = cond (joins (op_code x) (op_code y)) (joined_word x y ∷ ys) (x ∷ y ∷ ys)
 
-unfoldable pub joined : List ℕ → List ℕ
-joined [] = []
-joined (x ∷ xs) = prepend x (joined xs)
+-- a list whose neighbours of such kinds are joined
+unfoldable pub joined_by : (joins : ℕ → ℕ → Bool) → List ℕ → List ℕ
+joined_by joins [] = []
+joined_by joins (x ∷ xs) = prepend_by joins x (joined_by joins xs)
+
+-- neighbours of one kind join
+abbrev pub joined : List ℕ → List ℕ
+joined xs = joined_by eqb xs
 
 -- the simplified list of a record
 unfoldable pub simplified : Bool → List ℕ → List ℕ

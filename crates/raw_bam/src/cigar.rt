@@ -41,6 +41,7 @@ pub fn bases_of(word: u32) -> Bases
 }
 
 // The sum over 8,192 words fits. The bound stays a clause: a struct of few operations would be made anew from a slice at each call.
+// Two chains: the field as a closure is no plainer.
 #[tactic(auto, using(lists::proofs::Total::total_is_sum_by))]
 pub fn read_length_from_cigar(ops: &[u32]) -> u64
     requires { length ops.now ≤ 8192 }

@@ -12,6 +12,8 @@ const SECONDARY: u16 = 0x100;
 
 const SUPPLEMENTARY: u16 = 0x800;
 
+// Five names of a line each: the bit as a parameter would say at each call what the name says.
+
 #[tactic(auto, using(crate::proofs::Masks::masked))]
 pub fn is_paired(flags: u16) -> bool
     ensures { result ≡ has_flag flags paired_flag }

@@ -18,7 +18,8 @@ fn has_aligned_base(word: u32) -> bool
     is_aligned(word) && 0 < op_length(word)
 }
 
-// With the read bases before the operation, and whether M, = or X came before it.
+// With the read bases before the operation, and whether M, = or X came before it. A flag and no closure: it asks
+// another position, inside D or N alone.
 fn position_inside(word: u32, k: u64, read: u64, aligned: bool, ask_last: bool) -> Option<u64>
     requires { read + k < 2 ^ 63 }
     ensures { result ≡ inside ask_last read aligned word k }

@@ -32,7 +32,7 @@ fn place(i: usize, count: usize, reverse: bool) -> usize
     if reverse { count - 1 - i } else { i }
 }
 
-// Writes the simplified list of a record, and answers the number of its entries.
+// Writes the simplified list of a record, and answers the number of its entries. Into a lent slice, since there is no heap.
 pub fn simplify_cigar_from_raw(ops: &[u32], reverse: bool, entries: &mut [u64]) -> usize
     requires few { length ops.now ≤ 8192 }
     requires room { length ops.now ≤ length entries.old }

@@ -1,58 +1,59 @@
 // The line of a record: `R FLAGS NAME VERDICT RANK CLIPPED POSITION START COUNT`.
 ghost use Rattle.std.specs.Prelude.{◌≡◌};
-ghost use Rattle.line_text.specs.Fit.{InLimit, Fitting};
-ghost use Rattle.record_lines.specs.Record.{record_kinds, record_limits, integer_of, record_from, record_of};
+ghost use Rattle.line_text.specs.Fit.{Fit, Fitting};
+ghost use Rattle.line_text.specs.declared.value.Kind.TheVariants.{Signed};
+ghost use Rattle.record_lines.specs.Record.{record_layout, integer_of, record_from, record_of};
 
 use codec_records::records::Record;
 use line_text::line;
-use line_text::value::Value;
+use line_text::value::{Kind, Value};
 
-#[derive(Drop)]
-pub enum RecordLine {
-    Found(Record),
-    Malformed,
-}
+// How many fields stand behind the tag.
+const FIELDS: usize = 8;
 
+#[tactic(auto, unfolding(crate::specs::Record::integer_of))]
 fn integer(value: Value) -> i32
-    requires { InLimit value.negative 2147483647 value.magnitude }
+    requires { Fit (Signed 2147483647) value }
     ensures { result ≡ integer_of value }
 {
-    let magnitude = value.magnitude;
-    if value.negative {
-        -1 - ((magnitude - 1) as i32)
-    } else {
-        magnitude as i32
+    match value {
+        Value::Nothing => 0,
+        Value::Number(n) => n as i32,
+        Value::Below(n) => -1 - ((n - 1) as i32),
     }
 }
 
-fn record_from(values: [Value; line::FIELDS]) -> Record
-    requires { Fitting record_kinds record_limits values }
-    ensures { result ≡ record_from values }
+#[tactic(auto, unfolding(crate::specs::Record::record_from))]
+fn record_from(values: &[Value; FIELDS]) -> Record
+    requires { Fitting record_layout values.now }
+    ensures { result ≡ record_from values.now }
 {
     Record {
-        flags: values[0].magnitude as u16,
-        name: values[1].magnitude as u32,
-        verdict: values[2].magnitude == 1,
+        flags: values[0].magnitude() as u16,
+        name: values[1].magnitude() as u32,
+        verdict: values[2].magnitude() == 1,
         rank: integer(values[3]),
-        clipped: values[4].magnitude as u32,
-        position: values[5].magnitude as u32,
-        start: values[6].magnitude as u32,
-        count: values[7].magnitude as u32,
+        clipped: values[4].magnitude() as u32,
+        position: values[5].magnitude() as u32,
+        start: values[6].magnitude() as u32,
+        count: values[7].magnitude() as u32,
     }
 }
 
 // The record of a line.
-pub fn record_line(line: &[u8]) -> RecordLine
+pub fn record_line(line: &[u8]) -> Option<Record>
     ensures { result ≡ record_of line.now }
 {
-    let limits = [
-        65535, 4294967295, 1, 2147483647, 4294967295, 4294967295, 4294967295, 4294967295,
+    let layout = [
+        Kind::Plain(65535),
+        Kind::Plain(4294967295),
+        Kind::Plain(1),
+        Kind::Signed(2147483647),
+        Kind::Plain(4294967295),
+        Kind::Plain(4294967295),
+        Kind::Plain(4294967295),
+        Kind::Plain(4294967295),
     ];
-    let found = line::read_line(line, b'R', b"nnnsnnnn", &limits);
-    if found.well_formed {
-        let values = found.values;
-        RecordLine::Found(record_from(values))
-    } else {
-        RecordLine::Malformed
-    }
+    let values = line::read_line(line, b"R", &layout)?;
+    Some(record_from(&values))
 }

@@ -1,70 +1,42 @@
 // The lines of a family's records.
-ghost use Rattle.std.specs.Prelude.{◌≡◌, ◌≤◌, length};
-ghost use Rattle.line_text.specs.Reading.{Steps, lines_from, mapped};
-ghost use Rattle.record_lines.specs.Records.{records_from, table_of, blanks};
+ghost use Rattle.std.specs.Prelude.{◌≡◌, ◌≤◌, length, min, take, IfOk};
+ghost use Rattle.line_text.specs.Reading.{Reads, lines_from, mapped, one_line};
+ghost use Rattle.record_lines.specs.Record.{record_of};
+ghost use Rattle.record_lines.specs.Records.{records_from};
 
 use crate::record;
-use crate::record::RecordLine;
 use codec_records::records::Record;
-use line_text::lines::{Next, Stop};
-use table_text::parts;
+use line_text::lines;
+use line_text::lines::Stop;
 
 // A family of more than 512 records is refused, whatever they are.
 pub const RECORDS: usize = 512;
 
-// The first 512 records by value; what is left of the table is blank.
-#[derive(Drop)]
-pub struct Records {
-    pub next: Next,
-    pub table: [Record; RECORDS],
-}
-
-pub fn blank_table() -> [Record; RECORDS]
-    ensures { result ≡ blanks }
+fn next_record(text: &[u8], at: usize) -> Result<(Record, usize), Stop>
+    requires { at ≤ length text.now }
+    ensures { Reads (λ r. r) text.now result (one_line record_of (lines_from text.now at)) }
 {
-    let none = Record {
-        flags: 0,
-        name: 0,
-        verdict: false,
-        rank: 0,
-        clipped: 0,
-        position: 0,
-        start: 0,
-        count: 0,
-    };
-    [none; RECORDS]
+    lines::next_line(text, at, record::record_line)
 }
 
-// As many records as announced, all of them read.
-pub fn next_records(text: &[u8], start: usize, count: usize) -> Records
+// As many records as announced, all of them read: the first 512.
+pub fn next_records<'a>(
+    text: &[u8],
+    start: usize,
+    count: usize,
+    room: &'a mut [Record; RECORDS],
+) -> Result<(&'a [Record], usize), Stop>
     requires { start ≤ length text.now }
-    ensures { Steps text.now result.table result.next (mapped table_of (records_from count (lines_from text.now start))) }
+    ensures reads { Reads (λ records. records.now) text.now result (mapped (take 512) (records_from count (lines_from text.now start))) }
+    ensures counted { IfOk result (λ r. length r.0.now ≡ min count 512) }
 {
-    let mut table = blank_table();
     let mut at = start;
-    let mut i = 0;
-    while i < count {
-        let end = parts::part_end(text, at, b'\n');
-        if text.len() <= end {
-            return Records {
-                next: Next::Stopped(Stop::Cut(at)),
-                table,
-            };
-        }
-        let RecordLine::Found(found) = record::record_line(&text[at..end]) else {
-            return Records {
-                next: Next::Stopped(Stop::Malformed(at)),
-                table,
-            };
-        };
+    for i in 0..count {
+        let (record, after) = next_record(text, at)?;
         if i < RECORDS {
-            table[i] = found;
+            room[i] = record;
         }
-        at = end + 1;
-        i += 1;
+        at = after;
     }
-    Records {
-        next: Next::Until(at),
-        table,
-    }
+    Ok((&room[..count.min(RECORDS)], at))
 }

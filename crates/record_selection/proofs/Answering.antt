@@ -18,16 +18,17 @@ use Rattle.codec_select.specs.Steps.{Course, CourseIn, unless_refused, selected}
 use Rattle.codec_records.specs.declared.columns.Columns.{Columns}
 use Rattle.codec_records.specs.declared.options.Options.{Options}
 use Rattle.codec_records.specs.declared.records.Record.{Record}
-use Rattle.caller.specs.declared.refusal.Refusal.TheVariants as refusals
+use Rattle.std.specs.Prelude.{Err}
+use Rattle.caller.specs.declared.refusal.Refusal.TheVariants.{MinimumTooLong, TooManyRecords}
 use Rattle.codec_select.specs.declared.selection.Decision.{Decision}
 use Rattle.codec_select.specs.declared.selection.Decision.TheVariants.{Refused}
 use Rattle.codec_select.specs.declared.selection.Selection.{Selection}
 use Rattle.codec_records.specs.declared.side.Sides.{Sides}
 use Rattle.codec_records.proofs.Words.{no_marks}
 
--- 1 where the minimum duplex length is refused too, else 2
+-- for the minimum duplex length where that is refused too, else for their number
 abbrev refused_many : Options → Decision
-refused_many o = cond (ltb 2147483647 o.min_duplex_length) (Refused 1 0) (Refused 2 0)
+refused_many o = cond (ltb 2147483647 o.min_duplex_length) (Refused MinimumTooLong) (Refused TooManyRecords)
 
 -- nothing is kept
 record Unkept (decision : Decision) (outcome : Course) : Type 0 where
@@ -36,7 +37,7 @@ record Unkept (decision : Decision) (outcome : Course) : Type 0 where
   pub no_r2 : outcome.r2 ≡ []
 
 by_minimum : (test : Bool) (fates : List ℕ) (outcome : Course)
-    → Unkept (cond test (Refused 1 0) (Refused 2 0)) (unless_refused (cond test (refusals.Refused 1 0) (refusals.Refused 2 0)) fates outcome)
+    → Unkept (cond test (Refused MinimumTooLong) (Refused TooManyRecords)) (unless_refused (cond test (Err MinimumTooLong) (Err TooManyRecords)) fates outcome)
 by_minimum true fates outcome = record { ends = refl; no_r1 = refl; no_r2 = refl }
 by_minimum false fates outcome = record { ends = refl; no_r1 = refl; no_r2 = refl }
 

@@ -1,17 +1,16 @@
 -- Laws of an outcome: what holds of each record of the sides that step 2 enters holds of each that stays.
 use mathlib.Core.Bool.{Bool, ◌||◌}
 use mathlib.Core.List.{List, []}
-use mathlib.Core.Path.{◌≡◌, sym, ◌∙◌}
 use Prim.Native.Nat.{ℕ, ◌<◌}
 use native.Mathlib.Nat.{not-suc-le-zero}
 use lib.Dec.{eqb}
 use lib.IntN.{ℤ}
-use lib.ListN.{length, get_or, length-map}
+use lib.ListN.{length, get_or}
 use Rattle.std.proofs.lemmas.Bool.{cond_both}
 use Rattle.codec_pairing.proofs.Entered.{length-side_r2, Entered, side_r1_entered, side_r2_entered}
 use Rattle.codec_pairing.specs.Pairing.{side_r1, side_r2}
 use Rattle.caller.specs.declared.refusal.Refusal.{Refusal}
-use Rattle.caller.specs.declared.refusal.Refusal.TheVariants.{NoRefusal, Refused}
+use Rattle.std.specs.Prelude.{Result, Ok, Err}
 use Rattle.codec_select.specs.Alignments.{Alignments}
 use Rattle.codec_records.specs.Records.{Below}
 use Rattle.codec_sides.specs.Side.{under_cap, capped}
@@ -56,9 +55,9 @@ module _ (P : ℕ → Type 0) where
           (λ _. cond_both (too_few o r1) _ _ Both (λ _. (none_each, none_each))
           (λ _. cap_each _ _ _ (kept_each P r1 (is_in_group a r1) holds1) (kept_each P r2 (is_in_group a r2) holds2)))
 
-  unless_each : (refusal : Refusal) (fates : List ℕ) (outcome : Course) → Both outcome → Both (unless_refused refusal fates outcome)
-  unless_each NoRefusal fates outcome holds = holds
-  unless_each (Refused number given) fates outcome holds = (none_each, none_each)
+  unless_each : (refusal : Result Unit Refusal) (fates : List ℕ) (outcome : Course) → Both outcome → Both (unless_refused refusal fates outcome)
+  unless_each (Ok done) fates outcome holds = holds
+  unless_each (Err why) fates outcome holds = (none_each, none_each)
 
 module _ (o : Options) (count : ℕ) (names : List ℕ) (verdicts : List Bool) (ranks : List ℤ) (a : Alignments) where
   -- each is entered

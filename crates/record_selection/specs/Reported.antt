@@ -1,6 +1,7 @@
 -- Document 01, 'Selection alone': its answer as numbers.
 use Rattle.std.specs.Prelude.{false, List, ◌≡◌, ℕ, length}
 use Rattle.caller.specs.Reasons.{number_of}
+use Rattle.caller.specs.Refusals as refusals
 use Rattle.codec_records.specs.Marks.{marks, side_flags}
 use Rattle.codec_select.specs.Selection.{course_of}
 use Rattle.codec_records.specs.declared.options.Options.{Options}
@@ -21,7 +22,7 @@ reported_selection (Kept start end length r1_negative r2_negative) =
     record { kind = 0; number = 0; with = 0; start = start; end = end; length = length; r1_is_negative = r1_negative; r2_is_negative = r2_negative }
 reported_selection Empty = without_window 1 0 0
 reported_selection (Rejected reason) = without_window 2 (number_of reason) 0
-reported_selection (Refused number given) = without_window 3 number given
+reported_selection (Refused refusal) = without_window 3 (refusals.number_of refusal) (refusals.given_of refusal)
 
 -- 'kept records of each side as mark words, window, length and orientation; or only empty; or only the ending reason'
 pub record SelectingRecords (o : Options) (count : ℕ) (records : List Record) (ops : List ℕ) (answer : SelectAnswer) : Type 0 where

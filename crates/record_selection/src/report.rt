@@ -2,16 +2,25 @@
 ghost use Rattle.std.specs.Prelude.{List, ◌≡◌, ◌≤◌};
 ghost use Rattle.codec_records.specs.Records.{Holds};
 ghost use Rattle.codec_records.specs.declared.records.Record.{Record as AnyRecord};
-ghost use Rattle.record_selection.specs.Reported.{without_window, reported_selection, SelectingRecords};
+ghost use Rattle.record_selection.specs.Reported.{reported_selection, SelectingRecords};
 
 use crate::alone::select_marked;
 use codec_records::columns::Columns;
 use codec_records::options::Options;
-use codec_select::selection::Decision;
+use codec_select::selection::{Decision, Selection};
 
-// Kind 0 has the window, the length and which side is negative, 1 nothing, 2 a reason's number, 3 a refusal's number and what goes with it.
+const KEPT: u32 = 0;
+
+const EMPTY: u32 = 1;
+
+const REJECTED: u32 = 2;
+
+const REFUSED: u32 = 3;
+
+// Numbers, since no enum crosses the C interface. A kept family has the window, the length and which side is negative, a rejected one a reason's number, a refused one a refusal's number
+// and what goes with it.
 #[repr(C)]
-#[derive(Drop)]
+#[derive(Clone, Copy, Debug, Default, PartialEq, Eq, Hash)]
 pub struct SelectDecision {
     pub kind: u32,
     pub number: u32,
@@ -23,53 +32,65 @@ pub struct SelectDecision {
     pub r2_is_negative: bool,
 }
 
+impl From<Decision> for SelectDecision {
+    ghost from_gives = { λ decision told. told ≡ reported_selection decision };
+
+    fn from(decision: Decision) -> SelectDecision {
+        let none = SelectDecision::default();
+        match decision {
+            Decision::Kept {
+                start,
+                end,
+                length,
+                r1_is_negative,
+                r2_is_negative,
+            } => SelectDecision {
+                kind: KEPT,
+                start,
+                end,
+                length,
+                r1_is_negative,
+                r2_is_negative,
+                ..none
+            },
+            Decision::Empty => SelectDecision {
+                kind: EMPTY,
+                ..none
+            },
+            Decision::Rejected(reason) => SelectDecision {
+                kind: REJECTED,
+                number: u32::from(u8::from(reason)),
+                ..none
+            },
+            Decision::Refused(refusal) => SelectDecision {
+                kind: REFUSED,
+                number: refusal.number(),
+                with: refusal.given() as u64,
+                ..none
+            },
+        }
+    }
+}
+
 // The records of each side that are kept, as mark words.
 #[repr(C)]
-#[derive(Drop)]
+#[derive(Clone, Copy, Debug, Default, PartialEq, Eq, Hash)]
 pub struct SelectAnswer {
     pub decision: SelectDecision,
     pub r1: [u64; 8],
     pub r2: [u64; 8],
 }
 
-fn without_window(kind: u32, number: u32, with: u64) -> SelectDecision
-    ensures { result ≡ without_window kind number with }
-{
-    SelectDecision {
-        kind,
-        number,
-        with,
-        start: 0,
-        end: 0,
-        length: 0,
-        r1_is_negative: false,
-        r2_is_negative: false,
-    }
-}
+impl From<Selection> for SelectAnswer {
+    ghost from_gives = { λ selection told. told ≡ record { decision = reported_selection selection.decision; r1 = selection.r1; r2 = selection.r2 } };
 
-pub fn report_selection(decision: Decision) -> SelectDecision
-    ensures { result ≡ reported_selection decision }
-{
-    match decision {
-        Decision::Kept {
-            start,
-            end,
-            length,
-            r1_is_negative,
-            r2_is_negative,
-        } => SelectDecision {
-            kind: 0,
-            number: 0,
-            with: 0,
-            start,
-            end,
-            length,
-            r1_is_negative,
-            r2_is_negative,
-        },
-        Decision::Empty => without_window(1, 0, 0),
-        Decision::Rejected(reason) => without_window(2, u32::from(u8::from(reason)), 0),
-        Decision::Refused(number, with) => without_window(3, number, with as u64),
+    fn from(selection: Selection) -> SelectAnswer {
+        let Selection { decision, r1, r2 } = selection;
+        SelectAnswer {
+            decision: SelectDecision::from(decision),
+            r1,
+            r2,
+        }
     }
 }
 
@@ -77,13 +98,5 @@ pub fn report_selection(decision: Decision) -> SelectDecision
 pub fn report_columns(columns: &Columns, ops: &[u32], options: Options) -> SelectAnswer
     ensures { (records : List AnyRecord) → (columns.now.given ≤ 512 → Holds columns.now columns.now.given records) → SelectingRecords options columns.now.given records ops.now result }
 {
-    let selection = select_marked(columns, ops, options);
-    let decision = selection.decision;
-    let r1 = selection.r1;
-    let r2 = selection.r2;
-    SelectAnswer {
-        decision: report_selection(decision),
-        r1,
-        r2,
-    }
+    SelectAnswer::from(select_marked(columns, ops, options))
 }

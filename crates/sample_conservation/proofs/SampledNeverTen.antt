@@ -8,8 +8,10 @@ use borrow.Author.Tests.{eqb-true}
 use lib.Dec.{eqb, ltb}
 use lib.ListN.{length, length-replicate}
 use Rattle.lists.proofs.Places.{get_d_repeated}
-use Rattle.caller.specs.Refusals.{is_refusal, or_else, refused_if}
-use Rattle.caller.proofs.Refusals.{neither_refuses}
+use Rattle.std.specs.Prelude.{Ok}
+use Rattle.caller.specs.declared.refusal.LedgerRefusal.TheVariants.{TooLarge, Full}
+use Rattle.caller.specs.declared.refusal.Refusal.TheVariants.{Ledger as OfLedger, NoSuchSample}
+use Rattle.caller.proofs.Refusals.{passed}
 use Rattle.codec_stats.specs.Ledger.{Counts, fresh, too_large, full}
 use Rattle.sample_ledgers.specs.Samples.{sample_total}
 use Rattle.codec_conservation.specs.Chain.{Each}
@@ -19,9 +21,8 @@ use Rattle.codec_family.specs.Ending.{ending}
 use Rattle.codec_family.specs.FamilyCalled.{ending_with}
 use Rattle.codec_family.specs.Refusals.{of_call}
 use Rattle.codec_family.proofs.Counting.{counted_few}
-use Rattle.codec_family.proofs.Refusing.{cause_fails}
 use Rattle.codec_family.proofs.Settled.{ending-unrefused}
-use Rattle.codec_conservation.proofs.NeverTen.{Bounded, NotTen, fresh_bounded, plus_bounded, bounded_small, below-full, or_else_lem, refused-if, call_not, AnsweredTen, answered_ten}
+use Rattle.codec_conservation.proofs.NeverTen.{Bounded, NotTen, fresh_bounded, plus_bounded, bounded_small, below-full, and_not, cause_not, call_not, AnsweredTen, answered_ten}
 use Rattle.codec_conservation.proofs.Taking.{taken_fated}
 use Rattle.codec_samples.specs.Books.{Books, sample_of}
 use Rattle.codec_samples.specs.SampledCall.{SampledCall, own_counts, of_books, sampled_refusal}
@@ -39,27 +40,24 @@ books_not : (run own : Counts) → too_large run ≡ false → too_large own ≡
 unfolding of_books
 books_not run own small also =
     rw (small, also)
-    (or_else_lem (refused_if (full run) 11 0) (refused_if (full own) 11 0) (refused-if (full run) 11 0 (λ e. omega arith)) (refused-if (full own) 11 0 (λ e. omega arith)))
+    (cause_not (full run) (OfLedger Full) _ (λ e. omega arith)
+    (cause_not (full own) (OfLedger Full) (Ok tt) (λ e. omega arith) tt))
 
 sampled_ten_not : (c : SampledCall) (books : Books) → BoundedBooks books → NotTen (sampled_refusal c books)
 unfolding sampled_refusal
 sampled_ten_not c books b =
-    or_else_lem (refused_if (ltb 95 c.sample) 20 0) _ (refused-if (ltb 95 c.sample) 20 0 (λ e. omega arith))
-    (or_else_lem (of_call c.call) (of_books books.run (own_counts c books)) (call_not c.call)
+    cause_not (ltb 95 c.sample) NoSuchSample _ (λ e. omega arith)
+    (and_not (of_call c.call) (of_books books.run (own_counts c books)) (call_not c.call)
     (books_not books.run (own_counts c books) (bounded_small books.run b.run) (bounded_small (own_counts c books) (b.each c.sample))))
 
 -- a call that is not refused has room for one family more, in both its ledgers
-room_in_both : (run own : Counts) → is_refusal (of_books run own) ≡ false → (full run ≡ false) × (full own ≡ false)
+room_in_both : (run own : Counts) → of_books run own ≡ Ok tt → (full run ≡ false) × (full own ≡ false)
 unfolding of_books
 room_in_both run own none =
-    let ten = refused_if (too_large run) 10 0 in
-    let ten' = refused_if (too_large own) 10 0 in
-    let eleven = refused_if (full run) 11 0 in
-    let eleven' = refused_if (full own) 11 0 in
-    let a = (neither_refuses ten (or_else ten' (or_else eleven eleven')) none).1 in
-    let b = (neither_refuses ten' (or_else eleven eleven') a).1 in
-    let d = neither_refuses eleven eleven' b in
-    (cause_fails (full run) 11 0 d.0, cause_fails (full own) 11 0 d.1)
+    let small = passed (too_large run) (OfLedger TooLarge) _ none in
+    let also = passed (too_large own) (OfLedger TooLarge) _ small.1 in
+    let first = passed (full run) (OfLedger Full) _ also.1 in
+    (first.0, (passed (full own) (OfLedger Full) (Ok tt) first.1).0)
 
 handed_bounded : (books : Books) (m : SampledMade) → SampledHanded books m → BoundedBooks books → BoundedBooks (books_after m)
 handed_bounded books m handed b = go (says_refused m.made.answer.ending) refl

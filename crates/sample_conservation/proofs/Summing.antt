@@ -14,7 +14,8 @@ use Rattle.codec_stats.specs.declared.ledger.Ledger.{Ledger}
 use Rattle.codec_stats.proofs.Adding.{plus_ten, filtered-fresh, filtered-plus, reason_plus, plus-grouped, plus-swapped}
 use Rattle.codec_conservation.specs.Chain.{Each}
 use Rattle.codec_family.specs.Counted.{counted}
-use Rattle.caller.specs.Refusals.{is_refusal}
+use Rattle.std.specs.Prelude.{is_err}
+use Rattle.caller.proofs.Refusals.{accepted}
 use Rattle.codec_samples.specs.Books.{Books, sample_of}
 use Rattle.codec_samples.specs.SampledCall.{SampledCall, own_counts, sampled_refusal, counted_in, after_sampled}
 use Rattle.sample_conservation.specs.SampledHistory.{fresh_books, sampled_history_from, sampled_history}
@@ -72,11 +73,11 @@ counted_balanced c books below b =
 -- every call keeps the balance
 pub call_balanced : (c : SampledCall) (books : Books) → Balanced books → Balanced (after_sampled c books)
 unfolding after_sampled
-call_balanced c books b = go (is_refusal (sampled_refusal c books)) refl
+call_balanced c books b = go (is_err (sampled_refusal c books)) refl
   where
-    go : (r : Bool) → is_refusal (sampled_refusal c books) ≡ r → Balanced (cond r books (counted_in c books))
+    go : (r : Bool) → is_err (sampled_refusal c books) ≡ r → Balanced (cond r books (counted_in c books))
     go true e = b
-    go false e = counted_balanced c books (names_sample c books e) b
+    go false e = counted_balanced c books (names_sample c books (accepted _ e)) b
 
 pub history_balanced : (books : Books) (calls : List SampledCall) → Balanced books → Balanced (sampled_history_from books calls)
 unfolding sampled_history_from

@@ -8,37 +8,37 @@ use borrow.Author.Tests.{ltb-false, eqb-true, eqb-false}
 use lib.Dec.{eqb, ltb}
 use lib.ListN.{length, set, length-set}
 use lib.Seq.{get_or-set_same, get_or-set_other}
-use Rattle.caller.specs.Refusals.{is_refusal, or_else, refused_if}
-use Rattle.caller.proofs.Refusals.{neither_refuses}
+use Rattle.std.specs.Prelude.{Ok, is_err}
+use Rattle.std.specs.Result.{result_and}
+use Rattle.caller.specs.declared.refusal.Refusal.TheVariants.{NoSuchSample}
+use Rattle.caller.proofs.Refusals.{accepted, passed, both_passed}
 use Rattle.codec_stats.specs.Ledger.{Counts, fresh, plus}
 use Rattle.sample_ledgers.specs.Samples.{sample_total}
 use Rattle.codec_family.specs.Answer.{says_refused}
 use Rattle.codec_family.specs.Counted.{counted}
 use Rattle.codec_family.specs.Refusals.{of_call, of_records}
-use Rattle.codec_family.proofs.Refusing.{cause_fails, records_stand}
+use Rattle.codec_family.proofs.Refusing.{records_stand}
 use Rattle.codec_conservation.proofs.Taking.{Taken, answered_refused, taken_by}
 use Rattle.codec_samples.specs.Books.{Books, sample_of}
 use Rattle.codec_samples.specs.SampledCall.{SampledCall, own_counts, of_books, sampled_refusal, counted_in, after_sampled}
 use Rattle.sample_conservation.specs.SampledChain.{SampledMade, call_of, books_after, SampledHanded}
 
 -- a call that is not refused names a sample, its records stand, and both its ledgers have room
-module _ (c : SampledCall) (books : Books) (none : is_refusal (sampled_refusal c books) ≡ false) where
-  past_twenty : (ltb 95 c.sample ≡ false) × (is_refusal (or_else (of_call c.call) (of_books books.run (own_counts c books))) ≡ false)
+module _ (c : SampledCall) (books : Books) (none : sampled_refusal c books ≡ Ok tt) where
+  past_twenty : (ltb 95 c.sample ≡ false) × (result_and (of_call c.call) (of_books books.run (own_counts c books)) ≡ Ok tt)
   unfolding sampled_refusal
-  past_twenty =
-      let both = neither_refuses (refused_if (ltb 95 c.sample) 20 0) (or_else (of_call c.call) (of_books books.run (own_counts c books))) none in
-      (cause_fails (ltb 95 c.sample) 20 0 both.0, both.1)
+  past_twenty = passed (ltb 95 c.sample) NoSuchSample (result_and (of_call c.call) (of_books books.run (own_counts c books))) none
 
   pub names_sample : c.sample < sample_total
   names_sample = omega (arith, ltb-false 95 c.sample past_twenty.0)
 
-  past_nine : (is_refusal (of_call c.call) ≡ false) × (is_refusal (of_books books.run (own_counts c books)) ≡ false)
-  past_nine = neither_refuses (of_call c.call) (of_books books.run (own_counts c books)) past_twenty.1
+  past_nine : (of_call c.call ≡ Ok tt) × (of_books books.run (own_counts c books) ≡ Ok tt)
+  past_nine = both_passed (of_call c.call) (of_books books.run (own_counts c books)) past_twenty.1
 
-  pub looks_at_records : is_refusal (of_records c.call) ≡ false
+  pub looks_at_records : of_records c.call ≡ Ok tt
   looks_at_records = records_stand c.call past_nine.0
 
-  pub books_stand : is_refusal (of_books books.run (own_counts c books)) ≡ false
+  pub books_stand : of_books books.run (own_counts c books) ≡ Ok tt
   books_stand = past_nine.1
 
 -- the sample of a list in which one sample's counts are put
@@ -62,7 +62,7 @@ module _ {books : Books} {m : SampledMade} (handed : SampledHanded books m) wher
   pub books_after_lem : books_after m ≡ after_sampled (call_of m) books
   books_after_lem = λ i. record { run = handed.contract.run_after i; samples = handed.contract.samples-after i }
 
-  is_refused : says_refused m.made.answer.ending ≡ is_refusal (sampled_refusal (call_of m) books)
+  is_refused : says_refused m.made.answer.ending ≡ is_err (sampled_refusal (call_of m) books)
   is_refused = answered_refused m.made (sampled_refusal (call_of m) books) handed.contract.results (looks_at_records (call_of m) books)
 
   -- refused: all ledgers are those that were handed over
@@ -71,8 +71,8 @@ module _ {books : Books} {m : SampledMade} (handed : SampledHanded books m) wher
   all_left e = books_after_lem ∙ rw (sym is_refused ∙ e)
 
   -- not refused: the run's and its own sample's gain what the call counts
-  pub none_refuses : says_refused m.made.answer.ending ≡ false → is_refusal (sampled_refusal (call_of m) books) ≡ false
-  none_refuses e = sym is_refused ∙ e
+  pub none_refuses : says_refused m.made.answer.ending ≡ false → sampled_refusal (call_of m) books ≡ Ok tt
+  none_refuses e = accepted _ (sym is_refused ∙ e)
 
   pub both_added : says_refused m.made.answer.ending ≡ false → books_after m ≡ counted_in (call_of m) books
   unfolding after_sampled

@@ -2,10 +2,12 @@
 // that the text names, and writes the samples' sheet alone.
 #![tactic(auto)]
 
-use family_calls::files;
-use family_calls::form::Form;
+mod sheet;
+
+use crate::sheet::SheetAlone;
+use family_windows::files;
 use std::io;
 
 fn main(rt: HostRuntime) -> io::Result<()> {
-    files::run(&rt, Form::Sheet)
+    files::run::<SheetAlone, HostRuntime>(&rt)
 }

@@ -26,7 +26,7 @@ fn show_in(rt: &impl Print, samples: &[u64; SAMPLE_COUNTS], buffer: &mut [u8]) -
             rt.write_all(&buffer[..size])
         }
         Err(refusal) => {
-            let number = refusal.number();
+            let number = u32::from(refusal);
             println!(rt; "{bytes} bytes: refused {number}, {marks} as before")
         }
     }

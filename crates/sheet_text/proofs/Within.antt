@@ -11,7 +11,7 @@ use Rattle.lists.specs.Total.{total}
 use Rattle.codec_stats.specs.Ledger.{filtered, millionths, too_large}
 use Rattle.codec_stats.specs.declared.ledger.Ledger.{Ledger}
 use Rattle.codec_stats.proofs.Small.{small}
-use Rattle.table_text.proofs.Stores.{length-number_text}
+use Rattle.table_text.proofs.Decimals.{length-number_text}
 use Rattle.sheet_text.specs.SheetText.{numbers_text, sample_line}
 
 -- a sum of numbers that are at most so large

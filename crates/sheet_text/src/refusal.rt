@@ -9,25 +9,22 @@ use sample_ledgers::samples::read_sample;
 // The buffer that the sheet asks for, however short its text is.
 pub const SHEET_BYTES: usize = 16384;
 
+// By its number in the table of refusals.
 #[derive(Clone, Copy, Debug, PartialEq, Eq)]
 pub enum SheetRefusal {
-    LedgerTooLarge,
-    BufferTooSmall,
+    LedgerTooLarge = 10,
+    BufferTooSmall = 21,
 }
 
-impl SheetRefusal {
-    // The number in the table of refusals.
-    pub fn number(self) -> u32
-        ensures { result ≡ refusal_number self }
-    {
-        match self {
-            SheetRefusal::LedgerTooLarge => 10,
-            SheetRefusal::BufferTooSmall => 21,
-        }
+impl From<SheetRefusal> for u32 {
+    ghost from_gives = { λ refusal n. n ≡ refusal_number refusal };
+
+    fn from(refusal: SheetRefusal) -> u32 {
+        refusal as u32
     }
 }
 
-// Asked of a sample without a family too.
+// Asked of a sample without a family too. A for: of any the check does not see that it is the definition's not all.
 fn is_some_too_large(samples: &[u64; 1920]) -> bool
     ensures { result ≡ some_too_large samples.now }
 {

@@ -4,7 +4,7 @@ ghost use Rattle.sheet_text.specs.Reported.{reported_sheet};
 
 use crate::refusal::SheetRefusal;
 
-// Number 0 has the text's length, any other is a refusal's, with 0.
+// A number, since no enum crosses the C interface: 0 has the text's length, any other is a refusal's, with 0.
 #[repr(C)]
 #[derive(Clone, Copy, Debug, PartialEq, Eq)]
 pub struct SheetAnswer {
@@ -22,7 +22,7 @@ impl From<Result<usize, SheetRefusal>> for SheetAnswer {
                 length: size as u64,
             },
             Err(refusal) => SheetAnswer {
-                number: refusal.number(),
+                number: u32::from(refusal),
                 length: 0,
             },
         }

@@ -1,126 +1,102 @@
-// The lines of a family after its records: the operation words, and four columns for each strand.
-ghost use Rattle.std.specs.Prelude.{◌≡◌, ◌≤◌, length, take};
-ghost use Rattle.codec_duplex.specs.Columns.{strand};
+// The lines of a family after its records: the operation words, and four lines for each strand.
+ghost use Rattle.std.specs.Prelude.{◌≡◌, ◌≤◌, length};
+ghost use Rattle.std.specs.Option.{option_map};
+ghost use Rattle.codec_duplex.specs.Lent.{strand_of};
 ghost use Rattle.line_text.specs.Numbers.{words_line};
-ghost use Rattle.line_text.specs.Reading.{Steps, lines_from, from_next, next_place, one_line};
-ghost use Rattle.strand_lines.specs.Strands.{strand_from, strand_if, held, Held, Roomy};
+ghost use Rattle.line_text.specs.Reading.{Reads, lines_from, one_line};
+ghost use Rattle.strand_lines.specs.Strands.{strand_from, strand_if};
 
 use crate::column;
-use codec_family::room::Widths;
-use line_text::lines::{Next, Stop};
-use line_text::numbers;
-use line_text::numbers::Numbers;
-use table_text::parts;
+use codec_duplex::strand::Strand;
+use line_text::bases::PLACES;
+use line_text::lines::Stop;
+use line_text::{lines, numbers};
 
-// How long a strand's columns are, and where the next line begins.
+// Where the numbers of a strand are read to.
 #[derive(Drop)]
-pub struct StrandRead {
-    pub next: Next,
-    pub widths: Widths,
+pub struct StrandRoom {
+    quals: [u8; PLACES],
+    depths: [u16; PLACES],
+    errors: [u16; PLACES],
 }
 
-// The words of a line, exactly as many as announced, into a column's first places.
-fn words_at(text: &[u8], at: usize, count: usize, ops: &mut [u32]) -> Next
-    requires { (at ≤ length text.now) × (count ≤ length ops.old) }
-    ensures { Steps text.now (take count ops.new) result (one_line (words_line count) (lines_from text.now at)) }
-{
-    let end = parts::part_end(text, at, b'\n');
-    if text.len() <= end {
-        return Next::Stopped(Stop::Cut(at));
-    }
-    let Numbers::Count(n) = numbers::read_numbers(&text[at..end], b'O', 4294967295, count, ops)
-    else {
-        return Next::Stopped(Stop::Malformed(at));
-    };
-    if n == count {
-        Next::Until(end + 1)
-    } else {
-        Next::Stopped(Stop::Malformed(at))
+impl StrandRoom {
+    ghost use Rattle.std.specs.Prelude.{replicate};
+
+    // All is 0 at first; a strand that is read fills the first places.
+    pub fn new() -> StrandRoom
+        ensures { (result.quals ≡ replicate 1100 0) × (result.depths ≡ replicate 1100 0) × (result.errors ≡ replicate 1100 0) }
+    {
+        StrandRoom {
+            quals: [0; PLACES],
+            depths: [0; PLACES],
+            errors: [0; PLACES],
+        }
     }
 }
 
-// The same where the records before it were read.
-pub fn next_words(text: &[u8], from: Next, count: usize, ops: &mut [u32]) -> Next
-    requires { (next_place from ≤ length text.now) × (count ≤ length ops.old) }
-    ensures { Steps text.now (take count ops.new) result (from_next text.now from (one_line (words_line count))) }
+// The words of a line, exactly as many as there is room for.
+#[tactic(auto, unfolding(line_text::specs::Numbers::words_line))]
+fn read_words<'a>(line: &[u8], room: &'a mut [u32]) -> Option<&'a [u32]>
+    ensures { option_map (λ words. words.now) result ≡ words_line (length room.old) line.now }
 {
-    match from {
-        Next::Stopped(stop) => Next::Stopped(stop),
-        Next::Until(at) => words_at(text, at, count, ops),
-    }
+    let count = room.len();
+    let words = numbers::read_numbers(line, b"O", room)?;
+    (words.len() == count).then_some(words)
 }
 
-pub fn no_widths() -> Widths
-    ensures { result ≡ record { bases = 0; quals = 0; depths = 0; errors = 0 } }
+// A line of operation words.
+pub fn next_words<'a>(
+    text: &[u8],
+    at: usize,
+    room: &'a mut [u32],
+) -> Result<(&'a [u32], usize), Stop>
+    requires { at ≤ length text.now }
+    ensures { Reads (λ words. words.now) text.now result (one_line (words_line (length room.old)) (lines_from text.now at)) }
 {
-    Widths {
-        bases: 0,
-        quals: 0,
-        depths: 0,
-        errors: 0,
-    }
+    lines::next_line(text, at, |line| read_words(line, room))
 }
 
 // The four lines of a strand.
-fn strand_at(
-    text: &[u8],
+fn strand_at<'a>(
+    text: &'a [u8],
     at: usize,
-    bases: &mut [u8],
-    quals: &mut [u8],
-    depths: &mut [u16],
-    errors: &mut [u16],
-) -> StrandRead
-    requires { (at ≤ length text.now) × Roomy (strand bases.old quals.old depths.old errors.old) }
-    ensures steps { Steps text.now (held result.widths (strand bases.new quals.new depths.new errors.new)) result.next (strand_from (lines_from text.now at)) }
-    ensures held { Held result.widths }
+    room: &'a mut StrandRoom,
+) -> Result<(Strand<'a>, usize), Stop>
+    requires { at ≤ length text.now }
+    ensures { Reads strand_of text.now result (strand_from (lines_from text.now at)) }
 {
-    let in_bases = column::next_bases(text, at, bases);
-    let at_quals = in_bases.next;
-    let in_quals = column::next_qualities(text, at_quals, quals);
-    let at_depths = in_quals.next;
-    let in_depths = column::next_counts(text, at_depths, b'D', depths);
-    let at_errors = in_depths.next;
-    let in_errors = column::next_counts(text, at_errors, b'E', errors);
-    let next = in_errors.next;
-    StrandRead {
-        next,
-        widths: Widths {
-            bases: in_bases.length,
-            quals: in_quals.length,
-            depths: in_depths.length,
-            errors: in_errors.length,
-        },
-    }
+    let StrandRoom {
+        quals,
+        depths,
+        errors,
+    } = room;
+    let (bases, at) = column::next_bases(text, at)?;
+    let (quals, at) = column::next_numbers(text, at, b"Q", quals)?;
+    let (depths, at) = column::next_numbers(text, at, b"D", depths)?;
+    let (errors, at) = column::next_numbers(text, at, b"E", errors)?;
+    let strand = Strand {
+        bases,
+        quals,
+        depths,
+        errors,
+    };
+    Ok((strand, at))
 }
 
-// A strand that is there, where the lines before it were read.
-pub fn next_strand(
-    text: &[u8],
-    from: Next,
-    present: bool,
-    bases: &mut [u8],
-    quals: &mut [u8],
-    depths: &mut [u16],
-    errors: &mut [u16],
-) -> StrandRead
-    requires { (next_place from ≤ length text.now) × Roomy (strand bases.old quals.old depths.old errors.old) }
-    ensures steps { Steps text.now (held result.widths (strand bases.new quals.new depths.new errors.new)) result.next (from_next text.now from (strand_if present)) }
-    ensures held { Held result.widths }
+// A strand, where its lines follow.
+pub fn next_strand<'a>(
+    text: &'a [u8],
+    at: usize,
+    follows: bool,
+    room: &'a mut StrandRoom,
+) -> Result<(Option<Strand<'a>>, usize), Stop>
+    requires { at ≤ length text.now }
+    ensures { Reads (option_map strand_of) text.now result (strand_if follows (lines_from text.now at)) }
 {
-    match from {
-        Next::Stopped(stop) => StrandRead {
-            next: Next::Stopped(stop),
-            widths: no_widths(),
-        },
-        Next::Until(at) => {
-            if present {
-                strand_at(text, at, bases, quals, depths, errors)
-            } else {
-                StrandRead {
-                    next: Next::Until(at),
-                    widths: no_widths(),
-                }
-            }
-        }
+    if !follows {
+        return Ok((None, at));
     }
+    let (strand, after) = strand_at(text, at, room)?;
+    Ok((Some(strand), after))
 }

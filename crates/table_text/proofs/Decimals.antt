@@ -11,6 +11,7 @@ use lib.ListN.{length, length-append}
 use Rattle.std.specs.List.{list_all}
 use Rattle.std.specs.Prelude.{Some, None}
 use Rattle.table_text.specs.Decimal.{is_digit, spelled, plain, digits_number, number, last_digits, decimal}
+use Rattle.table_text.specs.OutputTable.{number_text}
 
 -- a choice that gave a value took its first arm
 pub taken : (t : Bool) (x w : ℕ) → cond t (Some x) None ≡ Some w → (t ≡ true) × (x ≡ w)
@@ -60,3 +61,8 @@ shorter (suc room) (suc k) n h = go (ltb n 10) (shorter room k (n / 10) (omega (
 pub length-decimal : (k n : ℕ) → n < 10 ^ suc k → length (decimal n) ≤ suc k
 unfolding decimal
 length-decimal k n h = shorter 20 k n h
+
+-- the digits and the byte after them
+pub length-number_text : (k n after : ℕ) → n < 10 ^ suc k → length (number_text n after) ≤ suc (suc k)
+unfolding number_text
+length-number_text k n after h = omega (arith, length-decimal k n h, length-append (decimal n) (after ∷ []))

@@ -1,8 +1,11 @@
--- Laws of the first place of a byte in what is left of a text.
-use Rattle.std.proofs.Common.{true, false, ◌≡◌, ◌+◌, ◌≤◌, ◌<◌, ℕ, List, [], ◌∷◌, Bool, length, drop, slice_index_or, eqb, suc, refl}
+-- Laws of the places of a byte: the first in what is left of a text, and how many there are.
+use Rattle.std.proofs.Common.{true, false, cond, ◌≡◌, ◌+◌, ◌≤◌, ◌<◌, ℕ, List, [], ◌∷◌, Bool, length, drop, slice_index_or, eqb, suc, refl, arith}
 use Rattle.std.proofs.lemmas.List.{drop_more, drop_all}
 use Rattle.std.proofs.lemmas.Bool.{eq-eqb, eqb-true}
+use Rattle.std.proofs.lemmas.List.Recursion.{is_count_by}
+use Rattle.std.specs.List.{count_by}
 use Rattle.table_text.specs.Bytes.{index_of, index_after}
+use Rattle.table_text.specs.Parts.{Parts, last, ended, in_front, parts, ended_parts}
 
 front : (byte b : ℕ) (bs : List ℕ) → b ≡ byte → index_of byte (b ∷ bs) ≡ 0
 unfolding index_of index_after
@@ -29,3 +32,16 @@ first_further byte text at inside isn't = rw (drop_more text at 0 inside) (behin
 
 pub first_nowhere : (byte : ℕ) (text : List ℕ) (at : ℕ) → length text ≤ at → index_of byte (drop at text) ≡ 0
 first_nowhere byte text at past = rw (drop_all at text past) (nowhere byte)
+
+-- a part is ended by each such byte
+pub parts_counted : (byte : ℕ) (text : List ℕ) → ended_parts (parts byte text) ≡ count_by (λ b. eqb b byte) text
+unfolding parts ended_parts in_front
+parts_counted byte = is_count_by (λ text. ended_parts (parts byte text)) (λ b. eqb b byte) refl next
+  where
+    next : (b : ℕ) (bs : List ℕ) → ended_parts (parts byte (b ∷ bs)) ≡ cond (eqb b byte) (1 + ended_parts (parts byte bs)) (ended_parts (parts byte bs))
+    next b bs = go (eqb b byte) (parts byte bs)
+      where
+        go : (t : Bool) (p : Parts) → ended_parts (cond t (ended [] p) (in_front b p)) ≡ cond t (1 + ended_parts p) (ended_parts p)
+        go true p = omega arith
+        go false (last part) = refl
+        go false (ended part more) = refl

@@ -4,6 +4,4 @@ pub mod FieldLists
 pub mod Firsts
 pub mod Pages
 pub mod Partings
-pub mod Stores
-pub mod Storing
 pub mod Tables

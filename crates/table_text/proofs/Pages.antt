@@ -1,5 +1,5 @@
 -- Laws of a text that is written into a lent buffer.
-use Rattle.std.proofs.Common.{◌≡◌, ℕ, List, [], ◌++◌, length, ◌∙◌, refl, arith}
+use Rattle.std.proofs.Common.{◌≡◌, ℕ, List, [], ◌∷◌, ◌++◌, length, ◌∙◌, refl, arith}
 use Rattle.std.proofs.Math.ListN.{length-append}
 use Rattle.std.specs.Borrow.{MutBor}
 use Rattle.lists.specs.Written.{written}
@@ -20,6 +20,10 @@ appends_then text more {old} first second =
       end = omega (arith, length-append text more);
       size = second.size ∙ first.size;
     }
+
+-- a text behind a byte
+pub appends_after : (byte : ℕ) (text : List ℕ) {old mid new : Page} → Appends (byte ∷ []) old mid → Appends text mid new → Appends (byte ∷ text) old new
+appends_after byte text = appends_then (byte ∷ []) text
 
 -- a text on a blank page stands at the front of the lent buffer
 pub page_written : (text : List ℕ) {lent : MutBor (List ℕ)} {blank page : Page} → Blank lent blank → Appends text blank page

@@ -1,6 +1,5 @@
 -- Document 01, `duplex-table`: the output has base, quality, depth and error.
-use Rattle.std.specs.Prelude.{List, [], ◌∷◌, ◌++◌, ◌≡◌, ℕ, ◌+◌, ◌≤◌, length, take}
-use Rattle.std.proofs.lemmas.List.Edits.{sets}
+use Rattle.std.specs.Prelude.{List, [], ◌∷◌, ◌++◌, ◌≡◌, ℕ, ◌≤◌, length, take}
 use Rattle.codec_duplex.specs.Position.{combined}
 use Rattle.codec_duplex.specs.declared.position.Position.{Position}
 use Rattle.table_text.specs.Decimal.{decimal}
@@ -26,10 +25,6 @@ rows_text (row ∷ more) = position_text (combined row.0 row.1) ++ rows_text mor
 -- the names, then the rows
 unfoldable pub output_table : List (Position × Position) → List ℕ
 output_table rows = output_names ++ rows_text rows
-
--- a text is stored from a place of a buffer on, and `after` is the place after it
-abbrev pub Stored : List ℕ → List ℕ → ℕ → List ℕ → ℕ → Type 0
-Stored text old to new after = (after ≡ to + length text) × (new ≡ sets old to text)
 
 -- n counts bytes at the front of a buffer; the second part, which follows, is what lending the front asks
 abbrev pub Front : ℕ → List ℕ → Type 0

@@ -7,6 +7,7 @@ ghost use Rattle.table_text.specs.Fields.{is_base, fields_from, base_field, numb
 
 use crate::{decimal, parts};
 
+// Of one byte of a text; codec_family asks the same of whole strands, in vector code.
 fn is_base(byte: u8) -> bool
     ensures { result ≡ is_base byte }
 {
@@ -27,7 +28,8 @@ pub fn read_base(line: &[u8], at: usize) -> Option<(u8, usize)>
     }
 }
 
-// The field at `at`, a decimal at most the limit, and the place after it.
+// The field at `at`, a decimal at most the limit, and the place after it. A closure for what is read of a field is no shorter than the four
+// lines around it.
 pub fn read_number(line: &[u8], at: usize, limit: u64) -> Option<(u64, usize)>
     ensures { read_in line.now result ≡ number_field limit (fields_from line.now at) }
 {

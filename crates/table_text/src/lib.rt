@@ -1,7 +1,6 @@
 // Text tables over byte slices: lines, fields and decimals, read and written.
 #![tactic(auto)]
 
-pub mod copying;
 pub mod decimal;
 pub mod duplex;
 pub mod fields;

@@ -32,7 +32,7 @@ pub fn write_position(page: &mut Page, p: Position)
     write_short(page, p.error, b'\n');
 }
 
-// Combines the rows up to the first malformed line.
+// Combines the rows up to the first malformed line. The end of a row says where the next begins: no range and no chain has these places.
 fn write_rows(page: &mut Page, input: &[u8], start: usize)
     requires start_in_bounds { start ≤ length input.now }
     requires room { HasRoom 40960 page.old }

@@ -69,6 +69,7 @@ pub fn next_row<R: Row>(text: &[u8], line: usize, at: usize) -> Option<(R, usize
     Some((row, end + 1))
 }
 
+// The end of a row says where the next begins: no range and no chain has these places.
 fn check_rows<R: Row>(text: &[u8], start: usize) -> Result<(), Malformed>
     requires { start ≤ length text.now }
     ensures { result ≡ (table_at R.line_of text.now 2 start).ending }

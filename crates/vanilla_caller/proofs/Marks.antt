@@ -1,5 +1,5 @@
 -- Columns of flags that are marked one place after the other.
-use Rattle.std.proofs.Common.{Bool, true, false, ◌||◌, List, [], ◌∷◌, ◌++◌, ◌≡◌, refl, ◌∙◌, ℕ, zero, suc, add-one, ◌+◌, ◌≤◌, ◌<◌, All, length, slice_index, slice_index_or, slice_set, replicate, take, drop, filter, append-nil, arith}
+use Rattle.std.proofs.Common.{Bool, true, false, ◌||◌, List, [], ◌∷◌, ◌++◌, ◌≡◌, refl, ◌∙◌, ℕ, zero, suc, add-one, ◌+◌, ◌≤◌, ◌<◌, All, length, slice_index, slice_index_or, slice_set, replicate, take, drop, filter, append-nil}
 use Rattle.std.proofs.lemmas.List.{length-replicate, replicate_more}
 use Rattle.std.proofs.lemmas.List.Elements.{All-get_or, filter_more}
 use Rattle.lists.specs.Member.{is_in}
@@ -8,7 +8,6 @@ use Rattle.lists.specs.Written.{written}
 use Rattle.lists.proofs.Member.{is_in_here, is_in_other}
 use Rattle.lists.proofs.Tabulate.{length-tabulate, set-tabulate}
 use Rattle.lists.proofs.Written.{set-written}
-use Rattle.std.proofs.lemmas.Grind.{common_steps}
 
 -- from place k on, where a test holds
 module _ (test : ℕ → Bool) (old : List Bool) (k : ℕ) where
@@ -16,15 +15,6 @@ module _ (test : ℕ → Bool) (old : List Bool) (k : ℕ) where
   pub record Marked (j : ℕ) (now : List Bool) : Type 0 where
     pub below : (i : ℕ) → k ≤ i → i < j → slice_index_or now i false ≡ (test i || slice_index_or old i false)
     pub above : (i : ℕ) → j ≤ i → slice_index_or now i false ≡ slice_index_or old i false
-
-  pub mark_none : Marked k old
-  mark_none = record { below = λ i low high. absurd (omega arith); above = λ i low. refl }
-
-  pub mark_yes : (j : ℕ) (now : List Bool) → j < length now → test j ≡ true → Marked j now → Marked (j + 1) (slice_set now j true)
-  mark_yes j now room fits marked = record { below = λ i low high. grind (arith, common_steps); above = λ i low. grind (arith, common_steps) }
-
-  pub mark_no : (j : ℕ) (now : List Bool) → test j ≡ false → Marked j now → Marked (j + 1) now
-  mark_no j now fails marked = record { below = λ i low high. grind (arith, common_steps); above = λ i low. grind (arith, common_steps) }
 
 tabulate-constant : {A : Type 0} (x : A) (n : ℕ) → replicate n x ≡ tabulate (λ _. x) n
 unfolding tabulate

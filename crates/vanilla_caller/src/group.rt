@@ -40,10 +40,11 @@ impl InOrder<'_> {
         ensures by_index { (j : ℕ) → k ≤ j → j < length self.now.order.now →
             slice_index_or grouped.new j false ≡ (is_prefix (list_at self.now j) (list_at self.now k) || slice_index_or grouped.old j false) }
     {
-        let first = self.side.list(self.order[k]);
+        let mut entries = [0; 64];
+        let first = self.side.list(self.order[k], &mut entries);
         let mut size = 0;
         for j in k..self.order.len() {
-            if self.side.is_prefix(self.order[j], &first) {
+            if self.side.is_prefix(self.order[j], first) {
                 grouped[j] = true;
                 size += 1;
             }
@@ -91,9 +92,10 @@ impl InOrder<'_> {
         ensures { stays.new ≡ written (tabulate (λ i. is_in i (group_of self.now place).members) (length self.now.order.now)) stays.old }
     {
         stays[..self.order.len()].fill(false);
-        let first = self.side.list(self.order[place]);
+        let mut entries = [0; 64];
+        let first = self.side.list(self.order[place], &mut entries);
         for &i in &self.order[place..] {
-            if self.side.is_prefix(i, &first) {
+            if self.side.is_prefix(i, first) {
                 stays[i] = true;
             }
         }

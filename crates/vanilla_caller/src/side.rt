@@ -1,36 +1,13 @@
 // The records of a side, as columns, and their simplified lists.
-ghost use Rattle.std.specs.Prelude.{◌≡◌, ℕ, List, ◌≤◌, ◌<◌, length, take};
+ghost use Rattle.std.specs.Prelude.{◌≡◌, ◌<◌, length};
 ghost use Rattle.raw_bam.specs.Prefix.{is_prefix, smaller};
 ghost use Rattle.vanilla_caller.specs.Side.{HasRecords};
 
 use raw_bam::prefix::{is_cigar_prefix, is_cigar_smaller};
 use raw_bam::simplified::simplify_cigar_from_raw;
-use std::marker::Model;
-
-// The simplified list of a record, which has at most 64 operations.
-#[derive(Drop)]
-pub struct Simplified {
-    entries: [u64; 64],
-    count: usize,
-}
-
-impl Model for Simplified {
-    ghost Value = { List ℕ };
-
-    ghost view = { λ s. take s.count s.entries };
-
-    ghost invariant = { λ s. s.count ≤ 64 };
-}
-
-impl Simplified {
-    pub fn as_slice(&self) -> &[u64]
-        ensures { result.now ≡ self.now }
-    {
-        &self.entries[..self.count]
-    }
-}
 
 // Each record has a part of the operation words, a clipped length and its own orientation.
+// Columns and no slice of records: each is gathered from a column of the family.
 #[derive(Clone, Copy)]
 pub struct Side<'a> {
     pub ops: &'a [u32],
@@ -44,23 +21,24 @@ pub struct Side<'a> {
 impl Side<'_> {
     ghost use Rattle.vanilla_caller.specs.Lists.{lists_of};
 
-    pub fn list(&self, i: usize) -> Simplified
+    // The simplified list of record i, which has at most 64 entries, in the first places of what is lent: by value it is copied twice.
+    pub fn list<'e>(&self, i: usize, entries: &'e mut [u64; 64]) -> &'e [u64]
         requires { i < length self.now.clipped.now }
-        ensures { result ≡ lists_of self.now i }
+        ensures { result.now ≡ lists_of self.now i }
     {
         let start = self.starts[i] as usize;
         let end = start + self.counts[i] as usize;
-        let mut entries = [0; 64];
-        let count = simplify_cigar_from_raw(&self.ops[start..end], self.reverse[i], &mut entries);
-        Simplified { entries, count }
+        let count = simplify_cigar_from_raw(&self.ops[start..end], self.reverse[i], entries);
+        &entries[..count]
     }
 
     // The list of record i is a prefix of another.
-    pub fn is_prefix(&self, i: usize, first: &Simplified) -> bool
+    pub fn is_prefix(&self, i: usize, first: &[u64]) -> bool
         requires { i < length self.now.clipped.now }
         ensures { result ≡ is_prefix (lists_of self.now i) first.now }
     {
-        is_cigar_prefix(self.list(i).as_slice(), first.as_slice())
+        let mut own = [0; 64];
+        is_cigar_prefix(self.list(i, &mut own), first)
     }
 
     // The list of record i is smaller than that of record j.
@@ -69,6 +47,8 @@ impl Side<'_> {
         requires other_in_side { j < length self.now.clipped.now }
         ensures { result ≡ smaller (lists_of self.now i) (lists_of self.now j) }
     {
-        is_cigar_smaller(self.list(i).as_slice(), self.list(j).as_slice())
+        let mut own = [0; 64];
+        let mut other = [0; 64];
+        is_cigar_smaller(self.list(i, &mut own), self.list(j, &mut other))
     }
 }

@@ -1,35 +1,39 @@
--- How it ends, the list and the marks, the columns, the ledger.
-use Rattle.std.proofs.Common.{arith, length-take}
-use Rattle.codec_duplex.specs.Columns.{strand}
-use Rattle.codec_duplex.specs.Duplex.{duplex}
-use Rattle.codec_family.specs.Call.{Lent, lent_of}
-use Rattle.answer_text.proofs.Families.{refused_stored, uncalled_stored, called_stored}
+-- How it ends, the lists and the columns where it has them, the ledger.
+use Rattle.std.proofs.Common.{◌≡◌, ◌++◌, List, ℕ, refl, append_assoc, append-nil, sym}
+use Rattle.caller.specs.declared.refusal.Refusal.{Refusal}
+use Rattle.codec_family.specs.Call.{Lent}
+use Rattle.codec_family.specs.declared.ending.Ending.{Ending}
+use Rattle.codec_family.specs.declared.ending.Ending.TheVariants.{Called, Empty, NoStrand, Rejected, Disagreeing, Refused}
+use Rattle.table_text.specs.Page.{Appends}
+use Rattle.table_text.proofs.Pages.{appends_none, appends_then}
+use Rattle.answer_text.specs.FamilyText.{ending_text, lists_text, columns_text, listed_unless_refused, called_text, ledger_text, family_text}
+use Rattle.answer_text.specs.Left.{left_shown}
 use Rattle.answer_text.proofs.family_answer.write_family_answer.Goals as goal
-use Rattle.answer_text.proofs.family_answer.write_family_answer.Goals.{Start}
+use Rattle.answer_text.proofs.family_answer.write_family_answer.Goals.{in-Refused, in-Called, in_default}
 
--- the lent columns
-abbrev lent_at : Start → Lent
-lent_at c =
-    let args = c.args in
-    lent_of (duplex args.d_bases.now args.d_quals.now args.d_depths.now args.d_errors.now) (strand args.s1_bases.now args.s1_quals.now args.s1_depths.now args.s1_errors.now) (strand args.s2_bases.now args.s2_quals.now args.s2_depths.now args.s2_errors.now) args.listed.now args.reasons.now args.marks.now
+-- what stands between the ending and the ledger
+abbrev between : Ending → ℕ → Lent → List ℕ
+between e listed lent = listed_unless_refused e listed lent ++ called_text e lent
 
-pub returns-in-Refused-clause-stored : goal.returns-in-Refused-clause-stored
-returns-in-Refused-clause-stored c =
-    let lent = lent_at (goal.at.returns-in-Refused-clause-stored c).Start in
-    refused_stored c.args.answer lent c.args.output.now c.args.to c.in-Refused.field-0 c.in-Refused.field-1 c.in-Refused.is c.write_ending-after_ending.ensures.stored c.write_ledger.ensures.stored
+-- of a family that is neither refused nor called the lists alone
+lists_alone : (e : Ending) (listed : ℕ) (lent : Lent) → ((refusal : Refusal) → e ≡ Refused refusal → ⊥) → ((length : ℕ) → e ≡ Called length → ⊥) → lists_text listed lent ≡ between e listed lent
+lists_alone (Called length) listed lent taken called = absurd (called length refl)
+lists_alone Empty listed lent taken called = sym (append-nil _)
+lists_alone NoStrand listed lent taken called = sym (append-nil _)
+lists_alone (Rejected reason) listed lent taken called = sym (append-nil _)
+lists_alone (Disagreeing limit) listed lent taken called = sym (append-nil _)
+lists_alone (Refused refusal) listed lent taken called = absurd (taken refusal refl)
 
-pub returns-in_default-ending : goal.returns-in_default-ending
-returns-in_default-ending c =
-    let lent = lent_at (goal.at.returns-in_default-ending c).Start in
-    record {
-      stored = uncalled_stored c.args.answer lent c.args.output.now c.args.to c.in_default.not-Refused c.write_ending-after_ending.ensures.stored c.write_list-at_marks.ensures.stored c.write_line-after_marks.ensures.stored c.in_default-ending.not-Called c.write_ledger-in_default-ending.ensures.stored;
-      upper_bound = omega (arith, c.requires.answered.few, simp length-take at c.write_line-after_marks.ensures.upper_bound);
-    }
-
-pub returns : goal.returns
-returns c =
-    let lent = lent_at (goal.at.returns c).Start in
-    record {
-      stored = called_stored c.args.answer lent c.args.output.now c.args.to c.in_default.not-Refused c.write_ending-after_ending.ensures.stored c.write_list-at_marks.ensures.stored c.write_line-after_marks.ensures.stored c.in-Called.length c.in-Called.is c.write_columns-at_ledger.ensures.stored c.write_ledger-2.ensures.stored;
-      upper_bound = omega (arith, c.requires.answered.few, rw c.in-Called.is at c.requires.answered.short, simp length-take at c.write_line-after_marks.ensures.upper_bound);
-    }
+pub returns-clause-appended : goal.returns-clause-appended
+unfolding family_text
+returns-clause-appended c =
+    let answer = c.args.answer in
+    let lent = left_shown c.args.left.now in
+    let middle : Appends (between answer.ending answer.listed lent) c.write_ending.new.page c.match-answer.page =
+    elim c.match-answer.branch [
+      | in-Refused w ↦ rw (w.in-Refused.is, w.page-is) (appends_none _)
+      | in-Called w ↦ rw (w.in-Called.is, w.page-is) (appends_then (lists_text answer.listed lent) (columns_text w.in-Called.length lent.duplex lent.r1 lent.r2) w.write_lists.ensures.appended w.write_columns.ensures.appended)
+      | in_default w ↦ rw (w.page-is, ← lists_alone answer.ending answer.listed lent w.in_default.not-Refused w.in_default.not-Called) w.write_lists-in_default.ensures.appended
+    ] in
+    let rest = appends_then (between answer.ending answer.listed lent) (ledger_text answer.ledger) middle c.write_ledger.ensures.appended in
+    appends_then (ending_text answer.ending) _ c.write_ending.ensures.appended (rw append_assoc at rest)

@@ -1,23 +1,18 @@
--- The ten reasons are listed one by one.
-use mathlib.Core.List.{List, [], ◌∷◌}
-use mathlib.Core.Path.{◌≡◌}
-use Prim.Native.Nat.{ℕ}
-use lib.ListN.{length, get_or}
-use borrow.Author.Rules.{rules}
-use Rattle.lists.specs.Tabulate.{tabulate}
-use Rattle.lists.proofs.Tabulate.{tabulate_get_d}
+-- The 20 counts, the ten reasons among them.
+use Rattle.std.proofs.Common.{rules, append_assoc, ◌≡◌, ◌∷◌, length}
+use Rattle.codec_stats.specs.Counts.{counts_of}
+use Rattle.codec_stats.specs.Ledger.{other_counts}
+use Rattle.codec_stats.specs.declared.ledger.Ledger.{Ledger}
+use Rattle.codec_stats.proofs.Counts.{reasons_back}
 use Rattle.answer_text.specs.FamilyText.{ledger_text}
 use Rattle.answer_text.proofs.family_answer.write_ledger.Goals as goal
 
--- a list of ten, place by place
-one_by_one : (xs : List ℕ) → length xs ≡ 10
-    → let at = get_or xs in
-    at 0 0 ∷ at 1 0 ∷ at 2 0 ∷ at 3 0 ∷ at 4 0 ∷ at 5 0 ∷ at 6 0 ∷ at 7 0 ∷ at 8 0 ∷ at 9 0 ∷ [] ≡ xs
-unfolding tabulate
-one_by_one xs ten = rw ten at (tabulate_get_d xs 0)
+counted : (l : Ledger) → length l.reasons ≡ 10 → counts_of l ≡ l.families ∷ other_counts l
+unfolding counts_of
+counted l ten = rw (reasons_back l ten, append_assoc)
 
-pub returns-clause-stored : goal.returns-clause-stored
+pub returns-clause-appended : goal.returns-clause-appended
 unfolding ledger_text
-returns-clause-stored c =
+returns-clause-appended c =
     let ten : length c.args.ledger.reasons ≡ 10 = search rules in
-    rw (← one_by_one c.args.ledger.reasons ten) c.write_line.ensures.stored
+    rw (← counted c.args.ledger ten, ← c.from.ensures) c.write_line.ensures.appended

@@ -12,7 +12,7 @@ unfolding tally_of padded_bases_r1 padded_bases_r2
 returns c =
     let f = c.args.frame in
     let negative = f.r1_is_negative in
-    let r1 = length_bases_padded negative negative f.length c.args.r1_bases.now c.requires.0 in
-    let r2 = length_bases_padded (not negative) f.r2_is_negative f.length c.args.r2_bases.now c.requires.1 in
+    let r1 = length_bases_padded negative negative f.length c.args.r1_bases.now c.requires.r1_fits in
+    let r2 = length_bases_padded (not negative) f.r2_is_negative f.length c.args.r2_bases.now c.requires.r2_fits in
     c.tally.ensures
-    ∙ ap₂ tallied (take_count _ _ _ f.length (sym r1) c.write_bases.ensures) (take_count _ _ _ f.length (sym r2) c.write_bases-2.ensures)
+    ∙ ap₂ tallied (take_count _ _ _ f.length (sym r1) (rw c.r1.ensures at c.write_bases.ensures)) (take_count _ _ _ f.length (sym r2) (rw c.r2.ensures at c.write_bases-2.ensures))

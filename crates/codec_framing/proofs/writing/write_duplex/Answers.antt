@@ -1,22 +1,16 @@
--- The strands and the duplex stand where they were written, have room there, and are turned back there.
-use Rattle.codec_framing.proofs.Places.{padded_rooms, combined_room, framed}
+-- The strands and the duplex stand where they were written, are read there, and are turned back there.
+use Rattle.std.proofs.Common.{◌∙◌, ap}
+use Rattle.codec_duplex.specs.Columns.{strand}
+use Rattle.codec_duplex.specs.Lent.{first_places}
+use Rattle.codec_framing.specs.Framing.{padded_r1, padded_r2}
+use Rattle.codec_framing.proofs.Places.{framed}
 use Rattle.codec_framing.proofs.writing.write_duplex.Goals as goal
 
-pub combine_padded-requires : goal.combine_padded-requires
-combine_padded-requires c =
-    let rooms = padded_rooms c.args.masks c.requires c.pad_strands.ensures.0 c.pad_strands.ensures.1 in
-    (rooms.0, rooms.1, c.requires.duplex)
-
-pub reverse_complement_if-requires : goal.reverse_complement_if-requires
-reverse_complement_if-requires c = combined_room c.args.masks c.requires c.pad_strands.ensures.0 c.pad_strands.ensures.1 c.combine_padded.ensures
-
-pub reverse_complement_if-requires-2 : goal.reverse_complement_if-requires-2
-reverse_complement_if-requires-2 c = (padded_rooms c.args.masks c.requires c.pad_strands.ensures.0 c.pad_strands.ensures.1).0
-
-pub reverse_complement_if-requires-3 : goal.reverse_complement_if-requires-3
-reverse_complement_if-requires-3 c = (padded_rooms c.args.masks c.requires c.pad_strands.ensures.0 c.pad_strands.ensures.1).1
-
-pub returns : goal.returns
-returns c =
-    framed c.args.masks c.requires c.pad_strands.ensures.0 c.pad_strands.ensures.1 c.combine_padded.ensures
-    c.reverse_complement_if.ensures c.reverse_complement_if-2.ensures c.reverse_complement_if-3.ensures
+pub returns-clause-framed : goal.returns-clause-framed
+unfolding padded_r1 padded_r2
+returns-clause-framed c =
+    let first = c.first.ensures ∙ ap (λ s. first_places c.args.frame.length (strand s.bases s.quals s.depths s.errors)) c.as_strand.ensures in
+    let second = c.first-2.ensures ∙ ap (λ s. first_places c.args.frame.length (strand s.bases s.quals s.depths s.errors)) c.as_strand-2.ensures in
+    framed c.args.masks c.requires (rw c.r1.ensures at c.pad_consensus.ensures.padded) (rw c.r2.ensures at c.pad_consensus-2.ensures.padded)
+    (rw (first, second) at c.combine_masked.ensures.masked)
+    c.reverse_complement_if.ensures.oriented c.reverse_complement_if-2.ensures.oriented c.reverse_complement_if-3.ensures.oriented

@@ -1,26 +1,9 @@
-use Rattle.std.proofs.Common.{◌≡◌, ◌+◌, ◌∙◌, sym, Bool, true, false, arith, refl}
-use Rattle.std.specs.Prelude.{◌||◌}
-use Rattle.codec_pairing.specs.Family.{is_namesake, has_namesake}
-use Rattle.codec_pairing.proofs.Namesakes.{asked_more, asked-all}
+use Rattle.std.proofs.Common.{◌∙◌, sym}
+use Rattle.codec_pairing.proofs.Namesakes.{some_found, none_named}
 use Rattle.codec_pairing.proofs.pairing.has_namesake.Goals as goal
 
-one_more : (any one rest : Bool) → any || (one || rest) ≡ (any || one) || rest
-one_more true one rest = refl
-one_more false one rest = refl
+pub returns-then-has_name : goal.returns-then-has_name
+returns-then-has_name c = c.is_some.ensures ∙ some_found _ _ _ c.next_namesake.ensures.none c.next_namesake.ensures.next
 
-none_left : (any : Bool) → any || false ≡ any
-none_left true = refl
-none_left false = refl
-
-pub loop-k-preserved : goal.loop-k-preserved
-loop-k-preserved c =
-    let f = c.args.family.now in
-    let name = c.args.name in
-    let k = c.loop-k.k in
-    c.loop-k.invariant
-    ∙ rw (asked_more f.flags.now f.names.now name c.args.from c.args.to k (omega arith), c.is_namesake-any.ensures) (one_more c.loop-k.any (is_namesake f name k) (has_namesake f name (k + 1) c.args.to))
-
-pub returns : goal.returns
-returns c =
-    let f = c.args.family.now in
-    sym (c.loop-k.invariant ∙ rw (asked-all f.flags.now f.names.now c.args.name c.args.from c.args.to c.loop-k.k (omega arith)) (none_left c.loop-k.any))
+pub returns-else-has_name : goal.returns-else-has_name
+returns-else-has_name c = c.if-has_name.false ∙ sym (none_named _ _ _ _ c.requires c.args.family.now.alike.as_many_names (sym c.has_name.ensures ∙ c.if-has_name.false))

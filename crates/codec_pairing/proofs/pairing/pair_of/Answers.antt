@@ -9,11 +9,9 @@ returns-in_err-later-clause-value c = rw (c.requires.first, c.in_err-later.ensur
 
 pub returns-then-has_namesake-clause-value : goal.returns-then-has_namesake-clause-value
 returns-then-has_namesake-clause-value c =
-    let some = rw c.len.ensures at (sym c.has_namesake.ensures ∙ c.if-has_namesake.true) in
-    rw (c.requires.first, c.in_ok-later.ensures.next, third_found _ _ _ _ _ _ some)
+    rw (c.requires.first, c.in_ok-later.ensures.next, third_found _ _ _ _ _ _ (sym c.has_namesake.ensures ∙ c.if-has_namesake.true))
 
 pub returns-clause-value : goal.returns-clause-value
 unfolding later_of
 returns-clause-value c =
-    let none = rw c.len.ensures at (sym c.has_namesake.ensures ∙ c.if-has_namesake.false) in
-    rw (c.requires.first, c.in_ok-later.ensures.next, none_found _ _ _ _ _ _ none) (search rules)
+    rw (c.requires.first, c.in_ok-later.ensures.next, none_found _ _ _ _ _ _ (sym c.has_namesake.ensures ∙ c.if-has_namesake.false)) (search rules)

@@ -1,9 +1,9 @@
 use Rattle.std.proofs.Common.{◌≡◌, ◌+◌, ◌-◌, ◌∙◌, sym, arith}
-use Rattle.codec_pairing.proofs.Namesakes.{none_between, passed_here}
+use Rattle.codec_pairing.proofs.Namesakes.{none_before, passed_here}
 use Rattle.codec_pairing.proofs.pairing.previous_namesake.Goals as goal
 
-pub returns-then-not-has_namesake-clause-none : goal.returns-then-not-has_namesake-clause-none
-returns-then-not-has_namesake-clause-none c = none_between _ _ _ 0 c.args.i (omega arith) (omega arith) (sym c.has_namesake.ensures ∙ c.if-not-has_namesake.true)
+pub returns-then-not-has_name-clause-none : goal.returns-then-not-has_name-clause-none
+returns-then-not-has_name-clause-none c = none_before _ _ _ c.args.i (omega arith) c.args.family.now.alike.as_many_names (sym c.has_name.ensures ∙ c.if-not-has_name.true)
 
 pub loop-k-preserved : goal.loop-k-preserved
 loop-k-preserved c =

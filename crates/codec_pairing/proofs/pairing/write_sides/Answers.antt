@@ -1,7 +1,6 @@
-use Rattle.std.proofs.Common.{◌≡◌, ◌∙◌, ◌+◌, ◌-◌, ◌<◌, ◌≤◌, ℕ, List, [], ◌∷◌, ◌++◌, map, length, refl, sym, ap, append_assoc, true, arith, rules}
+use Rattle.std.proofs.Common.{◌≡◌, ◌∙◌, ◌<◌, ◌≤◌, ℕ, List, [], ◌∷◌, ◌++◌, length, sym, ap, append_assoc, arith}
 use Rattle.std.proofs.lemmas.List.{append-nil, length-map, map-append}
 use native.Mathlib.Nat.{sub-zero}
-use Rattle.lists.specs.Numbers.{numbers_from}
 use Rattle.lists.proofs.Numbers.{numbers_yes, numbers_no, numbers_end}
 use Rattle.codec_records.specs.declared.side.Sides.{Sides}
 use Rattle.codec_pairing.specs.Pairing.{earlier_records, r1_of, r2_of, side_r1, side_r2}

@@ -1,5 +1,5 @@
 -- A cause that refuses nothing leaves the answer to the next.
-use Rattle.std.proofs.Common.{◌≡◌, ◌∙◌, sym, Option, ℕ, rules, arith}
+use Rattle.std.proofs.Common.{◌≡◌, sym, rules}
 use Rattle.codec_pairing.specs.Family.{reads}
 use Rattle.codec_pairing.specs.Refusals.{refusal_of_records, lowest_bad, has_bad_part, has_bad_words, has_bad_bases, has_bad_place}
 use Rattle.codec_pairing.proofs.refusal.refusal_of_records.Goals as goal

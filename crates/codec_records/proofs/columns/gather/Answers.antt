@@ -1,5 +1,5 @@
 -- A turn writes one record more.
-use Rattle.std.proofs.Common.{◌<◌, ◌≡◌, ℤ, pos, false, length, length-take, take, replicate, refl, arith, rules}
+use Rattle.std.proofs.Common.{◌<◌, pos, false, length, length-take, take, replicate, refl, arith, rules}
 use Rattle.lists.proofs.Map.{written-map_put}
 use Rattle.codec_records.specs.Records.{blank}
 use Rattle.codec_records.specs.declared.records.Record.{Record}

@@ -1,5 +1,5 @@
 -- The first i records stand in every column.
-use Rattle.std.proofs.Common.{◌≡◌, ◌≤◌, take}
+use Rattle.std.proofs.Common.{◌≡◌, take}
 use Rattle.lists.specs.Written.{written}
 use Rattle.codec_records.specs.Records.{column}
 use Rattle.codec_records.specs.declared.records.Record.{Record}

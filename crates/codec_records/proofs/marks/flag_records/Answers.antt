@@ -1,5 +1,5 @@
 -- One record less is to be flagged, and it is flagged.
-use Rattle.std.proofs.Common.{◌≡◌, ◌+◌, ◌∷◌, [], List, ℕ, true, ap, sym, ◌∙◌, arith, add-one, length, drop, drop_of_length-le, drop-cons, get_or, length-set}
+use Rattle.std.proofs.Common.{◌≡◌, ◌+◌, ◌∷◌, [], List, ℕ, true, ap, sym, ◌∙◌, arith, add-one, drop, drop_of_length-le, drop-cons, get_or, length-set}
 use Rattle.codec_records.specs.Marks.{flagged}
 use Rattle.codec_records.proofs.Words.{flagged-none, flagged_more}
 use Rattle.codec_records.proofs.marks.flag_records.Goals as goal

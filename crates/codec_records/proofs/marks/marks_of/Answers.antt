@@ -1,5 +1,5 @@
 -- The first w words are those of the marks, and the others are still 0.
-use Rattle.std.proofs.Common.{◌≡◌, ◌≤◌, ◌<◌, ◌*◌, ◌∙◌, List, ℕ, length, drop, length-drop, replicate, min, sym, ap, refl, arith, rules}
+use Rattle.std.proofs.Common.{◌≡◌, ◌≤◌, ◌<◌, ◌*◌, ◌∙◌, length, length-drop, replicate, min, ap, refl, arith}
 use Rattle.lists.specs.Tabulate.{tabulate}
 use Rattle.lists.proofs.Tabulate.{tabulate_put}
 use Rattle.codec_records.specs.Marks.{word_at}

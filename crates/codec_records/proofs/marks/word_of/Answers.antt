@@ -1,5 +1,5 @@
 -- With a flag still to come the word has at most 63 bits.
-use Rattle.std.proofs.Common.{◌≡◌, ◌≤◌, ◌^◌, ◌<◌, ◌∷◌, ◌++◌, [], ap, sym, ◌∙◌, refl, arith, rules, length, length-append, append_assoc}
+use Rattle.std.proofs.Common.{◌^◌, ◌<◌, ◌∷◌, [], ap, refl, arith, rules, length, length-append, append_assoc}
 use Rattle.std.proofs.lemmas.List.{append-nil}
 use Rattle.codec_records.specs.Marks.{word_of}
 use Rattle.codec_records.proofs.Words.{bit_below, bit_of, word_fits}

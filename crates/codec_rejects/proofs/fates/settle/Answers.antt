@@ -1,32 +1,25 @@
--- The first i fates are settled, and the others are as they were.
-use mathlib.Core.List.{List, map}
-use mathlib.Core.Path.{◌≡◌, ◌∙◌, ap}
-use Prim.Native.Nat.{ℕ, ◌≤◌}
-use native.Mathlib.Omega.{arith}
-use lib.ListN.{length, get_or, take, length-map, length-set}
-use lib.Seq.{take_all, length-take-le}
+-- A turn settles one fate more.
+use Rattle.std.proofs.Common.{◌≡◌, ◌∙◌, ◌≤◌, length, get_or, map, take, length-take, ap, arith}
+use Rattle.std.proofs.lemmas.List.{length-map}
+use Rattle.std.proofs.Math.Seq.{take_all}
 use Rattle.lists.proofs.Map.{written-map_put}
 use Rattle.lists.proofs.Written.{written-whole, get_d-written_beyond}
 use Rattle.caller.specs.Fates.{first_fate}
 use Rattle.codec_rejects.specs.Fates.{settled}
 use Rattle.codec_rejects.proofs.fates.settle.Goals as goal
 
-pub loop-i-preserved : goal.loop-i-preserved
-loop-i-preserved c =
-    let args = c.args in
-    let old = args.fates.now in
-    let i = c.loop-i.i in
-    let passed : length (map (first_fate args.fate) (take i old)) ≤ i = rw (length-map (take i old) (first_fate args.fate), length-take-le i old (omega arith)) (omega arith) in
-    let read : get_or c.loop-i.fates i 0 ≡ get_or old i 0 = ap (λ (l : List ℕ). get_or l i 0) c.loop-i.invariant.1 ∙ get_d-written_beyond (map (first_fate args.fate) (take i old)) old i 0 passed in (
-      omega arith,
-      written-map_put (first_fate args.fate) old 0 old i (omega arith) (omega arith) c.loop-i.invariant.1 (c.first_fate.ensures ∙ ap (λ (own : ℕ). first_fate args.fate own) read),
-      length-set c.loop-i.fates i c.first_fate.result ∙ c.loop-i.invariant.2,
-    )
+pub loop-own-preserved : goal.loop-own-preserved
+loop-own-preserved c =
+    let falls = first_fate c.args.fate in
+    let old = c.args.fates.now in
+    let i = c.loop-own.own-index in
+    let passed : length (map falls (take i old)) ≤ i = simp (length-map, length-take) (omega arith) in
+    let read : get_or c.loop-own.fates i 0 ≡ get_or old i 0 = rw c.loop-own.invariant (get_d-written_beyond (map falls (take i old)) old i 0 passed) in
+    written-map_put falls old 0 old i (omega arith) (omega arith) c.loop-own.invariant (c.first_fate.ensures ∙ ap falls read)
 
 pub returns : goal.returns
 unfolding settled
 returns c =
-    let args = c.args in
-    let old = args.fates.now in
-    let all : take c.loop-i.i old ≡ old = take_all c.loop-i.i old (omega arith) in
-    (rw all at c.loop-i.invariant.1) ∙ written-whole (map (first_fate args.fate) old) old (length-map old (first_fate args.fate))
+    let old = c.args.fates.now in
+    let all : take c.loop-own.own-index old ≡ old = take_all c.loop-own.own-index old (omega arith) in
+    (rw all at c.loop-own.invariant) ∙ written-whole (map (first_fate c.args.fate) old) old (length-map old (first_fate c.args.fate))

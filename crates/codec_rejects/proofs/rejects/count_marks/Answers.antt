@@ -1,19 +1,10 @@
--- The ones of the first k words are counted, at most 64 a word.
-use mathlib.Core.Path.{refl}
-use Prim.Native.Nat.{◌≤◌}
-use native.Mathlib.Omega.{arith}
-use lib.Count.{ones, ones-le}
-use lib.ListN.{get_or}
-use Rattle.lists.specs.Total.{total}
-use Rattle.lists.proofs.Total.{total_more}
+-- Eight words have at most 64 ones each.
+use Rattle.std.proofs.Common.{◌≤◌, ◌^◌, length, length-take, take, arith, rules}
+use Rattle.std.proofs.lemmas.Iterator.Adapters.{fits_from_length, at_most_from_yields_List}
+use Rattle.std.proofs.lemmas.Iterator.{YieldsList-from_slice}
 use Rattle.codec_rejects.proofs.rejects.count_marks.Goals as goal
 
-pub loop-k-init : goal.loop-k-init
-unfolding total
-loop-k-init c = (omega arith, refl, omega arith)
-
-pub loop-k-preserved : goal.loop-k-preserved
-loop-k-preserved c =
-    let marks = c.args.marks.now in
-    let few : ones (get_or marks c.loop-k.k 0) ≤ 64 = ones-le 64 (get_or marks c.loop-k.k 0) (omega (arith, c.type_inv.marks c.loop-k.k)) in
-    (omega arith, omega (arith, c.loop-k.invariant.1, total_more ones marks c.loop-k.k 0 (omega (arith, c.requires))), omega arith)
+pub sum-requires-clause-fits : goal.sum-requires-clause-fits
+sum-requires-clause-fits c =
+    let few : length (take 8 c.args.marks.now) ≤ 8 = omega (arith, length-take 8 c.args.marks.now) in
+    fits_from_length _ _ 8 (2 ^ 64) (at_most_from_yields_List (YieldsList-from_slice (take 8 c.args.marks.now) cc) few) c.map.ensures.closure (omega arith) (λ x r q k. search rules)

@@ -1,68 +1,48 @@
--- The rejected records before record i are listed, and with those still to come they are the list.
-use mathlib.Core.List.{List, [], ◌∷◌, ◌++◌, append_assoc, append-nil}
-use mathlib.Core.Path.{◌≡◌, sym, ◌∙◌, ap}
-use Prim.Native.Nat.{ℕ, ◌≤◌}
-use native.Mathlib.Omega.{arith}
-use lib.ListN.{length, get_or, set, length-append}
+-- A turn lists one record more, where it is rejected.
+use Rattle.std.proofs.Common.{◌≡◌, ◌∙◌, ◌+◌, ◌++◌, ◌∷◌, [], length, get_or, length-append, sym, ap, arith}
+use Rattle.std.proofs.lemmas.List.{append-nil}
 use Rattle.lists.proofs.Map.{written-map_more}
-use Rattle.lists.proofs.Numbers.{numbers_yes, numbers_no, numbers_end}
 use Rattle.lists.proofs.Written.{written_more}
-use Rattle.caller.specs.Fates.{is_rejection}
-use Rattle.codec_rejects.proofs.Listing.{rejected, length_entries, records_rejected, reasons_rejected}
+use Rattle.codec_rejects.proofs.Listing.{rejected, rejected_more, length_entries, records_rejected, reasons_rejected}
 use Rattle.codec_rejects.proofs.rejects.write_list.Goals as goal
-use Rattle.codec_rejects.proofs.rejects.write_list.Goals.{At-loop-i, then-is_rejection, else-is_rejection}
-
--- a store behind the entries that stand
-stored : (v : ℕ) {column column' : List ℕ} {count n : ℕ} → column ≡ column' → count ≡ n → set column count v ≡ set column' n v
-stored v same as_many = rw (same, as_many)
+use Rattle.codec_rejects.proofs.rejects.write_list.Goals.{then-is_rejection, else-is_rejection}
 
 pub loop-i-preserved : goal.loop-i-preserved
 loop-i-preserved c =
     let fates = c.args.fates.now in
-    let test = c.is_rejection.ensures in
     let i = c.loop-i.i in
-    let done = c.loop-i.invariant.0 in
-    let records = c.args.records.now in
-    let reasons = c.args.reasons.now in
+    let listed = rejected fates i in
+    let so_far = c.loop-i.invariant in
     elim c.if-is_rejection.branch [
       | then-is_rejection w ↦
-          let found = numbers_yes (λ k. is_rejection (get_or fates k 0)) (length fates) i (omega arith) (sym test ∙ w.if-is_rejection.true) in (
-            done ++ (i ∷ []),
-            omega arith,
-            append_assoc done (i ∷ []) _ ∙ ap (λ (l : List ℕ). done ++ l) (sym found) ∙ c.loop-i.invariant.2,
-            w.count-is ∙ rw c.loop-i.invariant.3 (sym (length-append done (i ∷ []))),
-            omega (arith, w.count-is),
-            w.records-is ∙ stored i c.loop-i.invariant.5 c.loop-i.invariant.3 ∙ written_more done records i (omega arith),
-            w.reasons-is ∙ stored (get_or fates i 0) c.loop-i.invariant.6 c.loop-i.invariant.3 ∙ written-map_more (λ k. get_or fates k 0) done i reasons (omega arith),
-          )
+          let more : rejected fates (i + 1) ≡ listed ++ (i ∷ []) = rw (sym c.is_rejection.ensures ∙ w.if-is_rejection.true) at (rejected_more fates i) in
+          record {
+            count_is = rw (more, length-append) (w.count-is ∙ ap (λ n. n + 1) so_far.count_is);
+            few = omega (arith, w.count-is);
+            records_are = rw more (w.records-is ∙ rw (so_far.records_are, so_far.count_is) (written_more listed c.args.records.now i (omega arith)));
+            reasons_are = rw more (w.reasons-is ∙ rw (so_far.reasons_are, so_far.count_is) (written-map_more (λ k. get_or fates k 0) listed i c.args.reasons.now (omega arith)));
+          }
       | else-is_rejection w ↦
-          let passed = numbers_no (λ k. is_rejection (get_or fates k 0)) (length fates) i (omega arith) (sym test ∙ w.if-is_rejection.false) in (
-            done,
-            omega arith,
-            ap (λ (l : List ℕ). done ++ l) (sym passed) ∙ c.loop-i.invariant.2,
-            w.count-is ∙ c.loop-i.invariant.3,
-            omega (arith, w.count-is),
-            w.records-is ∙ c.loop-i.invariant.5,
-            w.reasons-is ∙ c.loop-i.invariant.6,
-          )
+          let same : rejected fates (i + 1) ≡ listed = (rw (sym c.is_rejection.ensures ∙ w.if-is_rejection.false) at (rejected_more fates i)) ∙ append-nil listed in
+          record {
+            count_is = rw same (w.count-is ∙ so_far.count_is);
+            few = omega (arith, w.count-is);
+            records_are = rw same (w.records-is ∙ so_far.records_are);
+            reasons_are = rw same (w.reasons-is ∙ so_far.reasons_are);
+          }
     ]
 
--- the entries behind the last record are all of them
-all : (c : At-loop-i) → length c.args.fates.now ≤ c.loop-i.i → c.loop-i.invariant.0 ≡ rejected c.args.fates.now
-all c none =
-    let fates = c.args.fates.now in
-    let end = numbers_end (λ k. is_rejection (get_or fates k 0)) (length fates) c.loop-i.i none in
-    sym (append-nil c.loop-i.invariant.0) ∙ rw end at c.loop-i.invariant.2
-
 pub returns-clause-value : goal.returns-clause-value
-returns-clause-value c = c.loop-i.invariant.3 ∙ ap length (all (goal.at.returns-clause-value c).At-loop-i (omega arith)) ∙ sym (length_entries c.args.fates.now)
+returns-clause-value c =
+    let end : c.loop-i.i ≡ length c.args.fates.now = omega arith in
+    (rw end at c.loop-i.invariant.count_is) ∙ sym (length_entries c.args.fates.now)
 
 pub returns-clause-records_after : goal.returns-clause-records_after
 returns-clause-records_after c =
-    let e = all (goal.at.returns-clause-records_after c).At-loop-i (omega arith) in
-    rw records_rejected (rw e at c.loop-i.invariant.5)
+    let end : c.loop-i.i ≡ length c.args.fates.now = omega arith in
+    rw records_rejected (rw end at c.loop-i.invariant.records_are)
 
 pub returns-clause-reasons_after : goal.returns-clause-reasons_after
 returns-clause-reasons_after c =
-    let e = all (goal.at.returns-clause-reasons_after c).At-loop-i (omega arith) in
-    rw reasons_rejected (rw e at c.loop-i.invariant.6)
+    let end : c.loop-i.i ≡ length c.args.fates.now = omega arith in
+    rw reasons_rejected (rw end at c.loop-i.invariant.reasons_are)

@@ -1,23 +1,22 @@
--- The first n of the local flags are those of the fates.
-use mathlib.Core.Bool.{false}
-use mathlib.Core.List.{List, map}
-use mathlib.Core.Path.{◌≡◌, ◌∙◌, ap}
-use Prim.Native.Nat.{ℕ}
-use lib.ListN.{length, take, replicate, length-map}
-use Rattle.lists.specs.Written.{written}
-use Rattle.lists.proofs.Written.{take-written}
+-- Of the local flags the first n are those of the fates.
+use Rattle.std.proofs.Common.{◌≡◌, ◌∙◌, false, length, map, take, replicate, sym, arith}
+use Rattle.std.proofs.lemmas.List.{length-map}
+use Rattle.std.proofs.Math.Seq.{take_all}
+use Rattle.lists.proofs.Map.{written-map_put}
+use Rattle.lists.proofs.Written.{take_count}
 use Rattle.caller.specs.Fates.{is_marked}
 use Rattle.codec_rejects.specs.Handover.{mark_words}
+use Rattle.codec_rejects.proofs.Marking.{length-mark_words}
 use Rattle.codec_rejects.proofs.rejects.write_marks.Goals as goal
-use Rattle.codec_rejects.proofs.rejects.write_marks.Goals.{After-flag_marked}
 
-own-flags : (c : After-flag_marked) → let fates = c.args.fates.now in take (length fates) c.flag_marked.new.flags ≡ map is_marked fates
-own-flags c =
-    let fates = c.args.fates.now in
-    rw c.flag_marked.ensures (take-written (map is_marked fates) (replicate 512 false) (length fates) (length-map fates is_marked))
+pub loop-i-preserved : goal.loop-i-preserved
+loop-i-preserved c = written-map_put is_marked c.args.fates.now 0 (replicate 512 false) c.loop-i.i (omega arith) (omega arith) c.loop-i.invariant c.is_marked.ensures
 
 pub returns : goal.returns
 unfolding mark_words
 returns c =
-    c.put_words.ensures
-    ∙ ap (λ (words : List ℕ). written words c.args.marks.now) (rw (own-flags (goal.at.returns c).After-flag_marked) at c.marks_of.ensures)
+    let fates = c.args.fates.now in
+    let all : take c.loop-i.i fates ≡ fates = take_all c.loop-i.i fates (omega arith) in
+    let flags = take_count (map is_marked fates) (replicate 512 false) c.loop-i.flags (length fates) (sym (length-map fates is_marked)) (rw all at c.loop-i.invariant) in
+    let words : c.copy_from_slice.new.self ≡ mark_words fates = c.copy_from_slice.ensures.after ∙ rw flags at c.marks_of.ensures in
+    rw (words, length-mark_words fates)

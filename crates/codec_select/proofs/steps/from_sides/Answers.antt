@@ -1,8 +1,8 @@
 -- The sides stay sides of admissible records.
-use Rattle.std.proofs.Common.{◌≡◌, ◌∙◌, ◌<◌, sym, ap, refl, length, arith, eq-eqb, ne_eqb, lt-ltb, le-ltb}
+use Rattle.std.proofs.Common.{◌≡◌, ◌∙◌, sym, ap, refl, length, arith, eq-eqb, ne_eqb, lt-ltb, le-ltb}
 use Rattle.codec_pairing.specs.Family.{side_r1, side_r2}
 use Rattle.codec_select.specs.Alignments.{alignments_in, Formed}
-use Rattle.codec_select.specs.Steps.{is_in_group, with_minority, from_sides}
+use Rattle.codec_select.specs.Steps.{is_in_group, from_sides}
 use Rattle.codec_select.proofs.Formed.{side_r1_formed, side_r2_formed, grouped_formed, formed-below}
 use Rattle.codec_sides.proofs.Keeping.{length-given_fate}
 use Rattle.codec_select.proofs.steps.from_sides.Goals as goal

@@ -1,5 +1,5 @@
 -- The flags of the side are the first places of a local column.
-use Rattle.std.proofs.Common.{◌≡◌, ◌∙◌, ◌<◌, sym, take, length, arith}
+use Rattle.std.proofs.Common.{◌≡◌, ◌∙◌, sym, take, arith}
 use Rattle.lists.proofs.Written.{take_count}
 use Rattle.codec_sides.specs.Family.{in_group}
 use Rattle.codec_sides.proofs.Remaining.{length-in_group, few_kept, few_dropped}

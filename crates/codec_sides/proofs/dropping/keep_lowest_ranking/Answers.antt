@@ -1,5 +1,5 @@
 -- The flags of the side are the first places of a local column.
-use Rattle.std.proofs.Common.{◌≡◌, ◌∙◌, sym, take, arith, rules}
+use Rattle.std.proofs.Common.{◌≡◌, ◌∙◌, sym, take}
 use borrow.Author.Tests.{not-false}
 use Rattle.lists.proofs.Written.{take_count}
 use Rattle.codec_sides.specs.Family.{under_cap}

@@ -1,112 +1,73 @@
-use mathlib.Core.List.{List, [], ◌∷◌, ◌++◌, append_assoc}
-use mathlib.Core.Path.{◌≡◌, refl, sym, ◌∙◌, ap}
-use Prim.Native.Nat.{ℕ, ◌<◌}
-use native.Mathlib.Omega.{arith}
-use borrow.Author.Tests.{eqb-true}
-use lib.ListN.{length, take, get_or, length-append}
-use lib.Seq.{take-suc, take_all}
-use Rattle.std.proofs.lemmas.Bool.{and_parts}
-use Rattle.lists.proofs.Written.{length-written, written_more}
-use Rattle.lists.specs.Total.{total}
-use Rattle.raw_bam.specs.Cigar.{op_code, read_bases, read_length}
+use Rattle.std.proofs.Common.{◌≡◌, ◌+◌, ◌-◌, ◌<◌, ◌++◌, ◌∷◌, [], false, length, get_or, map, take, sym, ◌∙◌, arith}
+use Rattle.std.proofs.Math.Numerals.{add-one}
+use Rattle.std.proofs.Math.Seq.{take-suc, take_all}
+use Rattle.std.proofs.lemmas.Bool.{and_parts, eqb-true}
+use Rattle.std.proofs.lemmas.List.{map-append}
+use Rattle.std.proofs.lemmas.List.Sums.{sum_by_more_le}
+use Rattle.lists.proofs.Total.{total_is_sum_by}
+use Rattle.raw_bam.specs.Cigar.{op_code, read_bases}
 use Rattle.raw_bam.specs.Simplified.{joined_word}
+use Rattle.raw_bam.proofs.Joining.{joining, joined_none, last_counts, joins_last, begins_entry}
 use Rattle.extended_cigar.proofs.Accepted.{AcceptedBack, accepted_back}
-use Rattle.extended_cigar.proofs.More.{plain-next, plain_bases, bases_next}
+use Rattle.extended_cigar.proofs.Counting.{both_alike, counts_read, M-adds}
+use Rattle.extended_cigar.proofs.WayBack.{plain_counts, total_plain_words}
 use Rattle.extended_cigar.specs.Extended.{is_m}
-use Rattle.extended_cigar.specs.Plain.{prepend_m, joined_m, plain}
+use Rattle.extended_cigar.specs.Plain.{both_m, plain_word, plain}
 use Rattle.extended_cigar.proofs.back.write_plain.Goals as goal
-use Rattle.extended_cigar.proofs.back.write_plain.Goals.{then-last-word, else-last-word}
-use Rattle.extended_cigar.proofs.back.write_plain.Goals.{At-loop-i}
+use Rattle.extended_cigar.proofs.back.write_plain.Goals.{At-loop-word, then-n-gt0+then-are_both_m, else-n-gt0, else-n-gt0-via-then-n-gt0+else-are_both_m, else-n-gt0-via-else-n-gt0}
 
-plain-none : (words : List ℕ) → length words ≡ 0 → plain words ≡ []
-unfolding plain joined_m
-plain-none [] e = refl
-plain-none (word ∷ words) e = absurd (omega arith)
-
--- what the list meets, and that its words have room
-accepted : (c : At-loop-i) → let args = c.args in AcceptedBack args.words.now (length args.output.now)
+-- what the list meets
+accepted : (c : At-loop-word) → AcceptedBack c.args.words.now (length c.args.output.now)
 accepted c = accepted_back c.args.words.now (length c.args.output.now) c.requires
 
-fits : (c : At-loop-i) → c.loop-i.n < length c.args.output.now
-fits c = omega (arith, (accepted c).few, (accepted c).output)
+pub loop-word-init : goal.loop-word-init
+loop-word-init c = record { done = joined_none both_m c.args.output.now; few = omega arith }
 
-kept : (c : At-loop-i) → length c.loop-i.output ≡ length c.args.output.now
-kept c = ap length c.loop-i.invariant.4 ∙ length-written c.loop-i.invariant.0 c.args.output.now (omega (arith, fits c))
-
-room : (c : At-loop-i) → c.loop-i.n < length c.loop-i.output
-room c = omega (arith, kept c, fits c)
-
-pub returns-then-count-eq0 : goal.returns-then-count-eq0
-returns-then-count-eq0 c = let e = plain-none c.args.words.now c.if-count-eq0.true in (rw e, rw e)
-
-pub loop-i-init : goal.loop-i-init
-unfolding joined_m prepend_m total
-loop-i-init c =
+pub overflow_add-output : goal.overflow_add-output
+overflow_add-output c =
     let words = c.args.words.now in
-    let first = c.plain_word-last.ensures in
-    let one = take-suc words 0 0 (omega arith) in
-    let bases : read_length (take 1 words) ≡ read_bases (get_or words 0 0) = rw one (omega arith) in
-    ([], omega arith, omega arith, refl, refl, rw (one, first), λ m. rw first (omega (arith, bases, plain_bases (get_or words 0 0) (ap op_code (sym first) ∙ m))))
-
-pub overflow_add-last : goal.overflow_add-last
-overflow_add-last c =
-    let last = c.loop-i.last in
+    let at = c.loop-word in
     let word = c.plain_word-word.result in
-    let both = and_parts (is_m last) (is_m word) c.if-last-word.true in
-    let sum = bases_next c.args.words.now c.loop-i.i {last = last} (omega arith) c.plain_word-word.ensures (eqb-true (op_code word) 0 both.1) (c.loop-i.invariant.6 (eqb-true (op_code last) 0 both.0)) in
-    omega (arith, sum.0, sum.1, (accepted (goal.at.overflow_add-last c).At-loop-i).short)
+    let last = get_or at.output (at.n - 1) 0 in
+    let both = and_parts (is_m last) (is_m word) (sym c.are_both_m.ensures ∙ c.if-are_both_m.true) in
+    let before = rw (total_plain_words counts_read, total_is_sum_by) at (last_counts both_m both_alike at.invariant.done word read_bases (M-adds counts_read) c.if-n-gt0.true) in
+    let own : read_bases word ≡ read_bases (get_or words at.word-index 0) = rw c.plain_word-word.ensures (plain_counts counts_read (get_or words at.word-index 0)) in
+    let all = rw total_is_sum_by at (accepted (goal.at.overflow_add-output c).At-loop-word).short in
+    omega (arith, before, own, all, sum_by_more_le read_bases words at.word-index 0 c.loop-word-test.true, counts_read.of_m last both.0, counts_read.of_m word both.1, eqb-true (op_code last) 0 both.0, eqb-true (op_code word) 0 both.1)
 
-pub bounds-output-n : goal.bounds-output-n
-bounds-output-n c = room (goal.at.bounds-output-n c).At-loop-i
+pub bounds-output-n-else-n-gt0 : goal.bounds-output-n-else-n-gt0
+bounds-output-n-else-n-gt0 c =
+    let a = accepted (goal.at.bounds-output-n-else-n-gt0 c).At-loop-word in
+    omega (arith, a.few, a.output)
 
-pub loop-i-preserved : goal.loop-i-preserved
-loop-i-preserved c =
-    let args = c.args in
-    let words = args.words.now in
-    let i = c.loop-i.i in
-    let done = c.loop-i.invariant.0 in
-    let last = c.loop-i.last in
+pub loop-word-preserved : goal.loop-word-preserved
+loop-word-preserved c =
+    let words = c.args.words.now in
+    let at = c.loop-word in
+    let last = get_or at.output (at.n - 1) 0 in
     let word = c.plain_word-word.result in
-    let here : i < length words = omega arith in
-    let made = c.plain_word-word.ensures in
-    let with-next = plain-next words i done last here made c.loop-i.invariant.5 in
-    elim c.if-last-word.branch [
-      | then-last-word w ↦ (
-          let both = and_parts (is_m last) (is_m word) w.if-last-word.true in
-          let m = eqb-true (op_code last) 0 both.0 in
-          let m' = eqb-true (op_code word) 0 both.1 in
-          let longer : joined_word last word ≡ c.if-last-word.last = omega (arith, w.last-is) in (
-            done,
-            omega arith,
-            omega (arith, w.n-is),
-            c.loop-i.invariant.3 ∙ sym w.n-is,
-            w.output-is ∙ c.loop-i.invariant.4,
-            rw (w.if-last-word.true, longer) at with-next,
-            λ _. rw w.last-is (bases_next words i here made m' (c.loop-i.invariant.6 m)).0,
-          ))
-      | else-last-word w ↦ (
-          let n = c.loop-i.invariant.3 in (
-            done ++ (last ∷ []),
-            omega arith,
-            omega (arith, w.n-is),
-            length-append done (last ∷ []) ∙ omega (arith, w.n-is),
-            w.output-is ∙ rw (c.loop-i.invariant.4, ← n) (written_more done args.output.now last (omega (arith, fits (goal.at.loop-i-preserved c).At-loop-i))),
-            (rw w.if-last-word.false at with-next) ∙ rw w.last-is (sym (append_assoc done (last ∷ []) (word ∷ []))),
-            λ m. rw w.last-is (omega (arith, (bases_next words i {last = 0} here made (ap op_code (sym w.last-is) ∙ m) (omega arith)).0)),
-          ))
+    let here : at.word-index < length words = omega arith in
+    let more : map plain_word (take (at.word-index + 1) words) ≡ map plain_word (take at.word-index words) ++ (word ∷ []) =
+    rw (add-one, take-suc words at.word-index 0 here, map-append, c.plain_word-word.ensures) in
+    let a = accepted (goal.at.loop-word-preserved c).At-loop-word in
+    elim c.if-n-gt0.branch [
+      | then-n-gt0+then-are_both_m w ↦
+          let both = sym w.are_both_m.ensures ∙ w.if-are_both_m.true in
+          let codes = and_parts (is_m last) (is_m word) both in
+          let longer : last + word ≡ joined_word last word = omega (arith, eqb-true (op_code last) 0 codes.0, eqb-true (op_code word) 0 codes.1) in
+          record { done = rw (more, w.n-is, w.output-is, longer) (joins_last both_m both_alike at.invariant.done word w.if-n-gt0.true both); few = omega arith }
+      | else-n-gt0 w ↦
+          let other : (0 < at.n → joining both_m last word ≡ false) = elim w.else-n-gt0.branch [
+            | else-n-gt0-via-then-n-gt0+else-are_both_m v ↦ λ some. sym v.are_both_m.ensures ∙ v.if-are_both_m.false
+            | else-n-gt0-via-else-n-gt0 v ↦ λ some. absurd (omega (arith, v.if-n-gt0.false))
+          ] in
+          record { done = rw (more, w.n-is, w.output-is) (begins_entry both_m both_alike at.invariant.done word (omega (arith, a.few, a.output)) other); few = omega arith }
     ]
 
-pub bounds-output-n-2 : goal.bounds-output-n-2
-bounds-output-n-2 c = room (goal.at.bounds-output-n-2 c).At-loop-i
-
-pub returns : goal.returns
+pub returns-clause-count : goal.returns-clause-count
 unfolding plain
-returns c =
-    let args = c.args in
-    let done = c.loop-i.invariant.0 in
-    let last = c.loop-i.last in
-    let all : take c.loop-i.i args.words.now ≡ args.words.now = take_all c.loop-i.i args.words.now (omega arith) in
-    let whole = rw all at c.loop-i.invariant.5 in (
-      rw (whole, length-append done (last ∷ [])) (omega arith),
-      rw (whole, c.loop-i.invariant.4, ← c.loop-i.invariant.3) (written_more done args.output.now last (omega (arith, fits (goal.at.returns c).At-loop-i))),
-    )
+returns-clause-count c = rw (take_all c.loop-word.word-index c.args.words.now (omega arith)) at c.loop-word.invariant.done.count_is
+
+pub returns-clause-stored : goal.returns-clause-stored
+unfolding plain
+returns-clause-stored c = rw (take_all c.loop-word.word-index c.args.words.now (omega arith)) at c.loop-word.invariant.done.column_is

@@ -1,22 +1,12 @@
--- The words that are finished are written, and the one in hand is the last of what the words passed join to.
-use mathlib.Core.List.{List, [], ◌∷◌, ◌++◌, map}
-use mathlib.Core.Path.{◌≡◌}
-use Prim.Native.Nat.{ℕ, ◌*◌, ◌-◌, ◌≤◌, ◌<◌}
-use lib.ListN.{length, take}
-use Rattle.lists.specs.Written.{written}
-use Rattle.raw_bam.specs.Cigar.{op_code, read_length}
-use Rattle.extended_cigar.specs.Plain.{plain_word, joined_m}
+-- What the words passed join to is written.
+use Rattle.std.proofs.Common.{map, ◌≤◌, take}
+use Rattle.raw_bam.proofs.Joining.{JoinedIn}
+use Rattle.extended_cigar.specs.Plain.{plain_word, both_m}
 use Rattle.extended_cigar.proofs.back.write_plain.Given as goal
 
-abbrev pub invariant-loop-i : goal.invariant-loop-i
-invariant-loop-i l =
-    (done : List ℕ)
-    × (l.i ≤ length l.words)
-    × (l.n < l.i)
-    × (length done ≡ l.n)
-    × (l.output ≡ written done l.initial.output)
-    × (joined_m (map plain_word (take l.i l.words)) ≡ done ++ (l.last ∷ []))
-    × (op_code l.last ≡ 0 → l.last ≤ 16 * read_length (take l.i l.words))
-
-abbrev pub decreases-loop-i : goal.decreases-loop-i
-decreases-loop-i l = length l.words - l.i
+abbrev pub invariant-loop-word : goal.invariant-loop-word
+invariant-loop-word l =
+    record {
+      done : JoinedIn both_m (map plain_word (take l.word-index l.words)) l.initial.output l.output l.n;
+      few : l.n ≤ l.word-index;
+    }

@@ -1,79 +1,87 @@
-use mathlib.Core.Path.{◌≡◌, refl, ◌∙◌, ap}
-use Prim.Native.Nat.{◌<◌}
-use native.Mathlib.Nat.{zero-add}
-use native.Mathlib.Omega.{arith}
-use lib.ListN.{length, take, get_or, length-append}
-use lib.Seq.{length-sets, take_all}
+use Rattle.std.proofs.Common.{◌≡◌, ◌∙◌, ◌+◌, ◌<◌, ◌≤◌, ◌++◌, ◌∷◌, [], length, get_or, drop, length-append, length-take, length-drop, drop_of_length-le, refl, sym, arith, append_assoc}
+use Rattle.std.proofs.Math.Numerals.{add-one}
+use Rattle.std.proofs.Math.Seq.{drop-cons}
+use Rattle.std.proofs.lemmas.List.{append-nil}
 use Rattle.lists.specs.Total.{total}
-use Rattle.lists.proofs.Sets.{sets_append, sets_written}
-use Rattle.lists.proofs.Total.{total_more}
 use Rattle.raw_bam.specs.Cigar.{read_bases, reference_bases, read_length, reference_length}
 use Rattle.extended_cigar.proofs.Accepted.{AcceptedThere, accepted_there}
-use Rattle.extended_cigar.proofs.More.{extended-next, length_word, Within, within}
+use Rattle.extended_cigar.proofs.Left.{from_parts, written_behind}
+use Rattle.extended_cigar.proofs.WayThere.{length_word}
 use Rattle.extended_cigar.specs.Extended.{extended_word, extended_from, extended}
 use Rattle.extended_cigar.proofs.there.write_extended.Goals as goal
-use Rattle.extended_cigar.proofs.there.write_extended.Goals.{At-loop-k}
+use Rattle.extended_cigar.proofs.there.write_extended.Goals.{At-loop-word}
 
--- what the list meets, and the bases of its next operation
-accepted : (c : At-loop-k)
-    → let args = c.args in AcceptedThere args.words.now args.read.now args.reference.now (length args.output.now)
+accepted : (c : At-loop-word) → AcceptedThere c.args.words.now c.args.read.now c.args.reference.now (length c.args.output.now)
 accepted c = accepted_there _ _ _ _ c.requires
 
-inside : (c : At-loop-k)
-    → let args = c.args in
-    c.loop-k.k < length args.words.now → Within args.words.now args.read.now args.reference.now c.loop-k.k
-inside c h = within _ _ _ _ c.loop-k.k (accepted c) h
+-- the operations left, the next one first
+next : (c : At-loop-word) → c.loop-word.word-index < length c.args.words.now
+    → drop c.loop-word.word-index c.args.words.now ≡ get_or c.args.words.now c.loop-word.word-index 0 ∷ drop (c.loop-word.word-index + 1) c.args.words.now
+next c here = rw add-one (drop-cons c.args.words.now c.loop-word.word-index 0 here)
 
--- as long as it was lent
-kept : (c : At-loop-k) → length c.loop-k.output ≡ length c.args.output.now
-kept c =
-    let args = c.args in
-    ap length c.loop-k.invariant.5 ∙ length-sets args.output.now 0 (extended (take c.loop-k.k args.words.now) args.read.now args.reference.now)
+-- the bases left, and the room
+record Left (c : At-loop-word) : Type 0 where
+  read : length c.loop-word.read_left.now ≡ read_bases (get_or c.args.words.now c.loop-word.word-index 0) + read_length (drop (c.loop-word.word-index + 1) c.args.words.now)
+  reference : length c.loop-word.reference_left.now ≡ reference_bases (get_or c.args.words.now c.loop-word.word-index 0) + reference_length (drop (c.loop-word.word-index + 1) c.args.words.now)
+  room : c.loop-word.n + length c.loop-word.read_left.now + length (drop (c.loop-word.word-index + 1) c.args.words.now) < 1088
 
-pub loop-k-init : goal.loop-k-init
-unfolding extended extended_from total
-loop-k-init c = (omega arith, refl, refl, refl, omega arith, refl)
+left : (c : At-loop-word) → c.loop-word.word-index < length c.args.words.now → Left c
+unfolding total
+left c here =
+    let so_far = c.loop-word.invariant in
+    record { read = rw (next c here) at so_far.4; reference = rw (next c here) at so_far.5; room = omega (arith, rw (next c here) at so_far.7) }
 
-pub write_word-to-requires : goal.write_word-to-requires
-write_word-to-requires c =
-    let here = inside (goal.at.write_word-to-requires c).At-loop-k c.loop-k-test.true in
-    let a = accepted (goal.at.write_word-to-requires c).At-loop-k in
-    (here.long, omega (arith, here.short), omega (arith, here.bases), omega (arith, here.reference_bases_lem), omega (arith, kept (goal.at.write_word-to-requires c).At-loop-k, here.short, a.few, a.output))
+pub loop-word-init : goal.loop-word-init
+unfolding extended
+loop-word-init c =
+    let a = accepted_there _ _ _ _ c.requires in
+    ([], refl, refl, refl, a.bases, a.reference_bases_lem, omega (arith, a.bases, a.short), omega (arith, a.bases, a.short, a.few))
 
-pub overflow_add-i : goal.overflow_add-i
-overflow_add-i c = omega (arith, (inside (goal.at.overflow_add-i c).At-loop-k c.loop-k-test.true).short, c.bases_of-bases.ensures.read)
+pub split_at-requires : goal.split_at-requires
+split_at-requires c = omega (arith, (left (goal.at.split_at-requires c).At-loop-word c.loop-word-test.true).read, c.bases_of-bases.ensures.read)
 
-pub overflow_add-j : goal.overflow_add-j
-overflow_add-j c = omega (arith, (inside (goal.at.overflow_add-j c).At-loop-k c.loop-k-test.true).reference_bases_lem, c.bases_of-bases.ensures.reference)
+pub split_at-requires-in-loop-word : goal.split_at-requires-in-loop-word
+split_at-requires-in-loop-word c = omega (arith, (left (goal.at.split_at-requires-in-loop-word c).At-loop-word c.loop-word-test.true).reference, c.bases_of-bases.ensures.reference)
 
-pub loop-k-preserved : goal.loop-k-preserved
-loop-k-preserved c =
-    let args = c.args in
-    let words = args.words.now in
-    let read = args.read.now in
-    let reference = args.reference.now in
-    let k = c.loop-k.k in
-    let here : k < length words = c.loop-k-test.true in
-    let done = extended (take k words) read reference in
-    let i = c.loop-k.invariant.1 in
-    let j = c.loop-k.invariant.2 in
-    let to = c.loop-k.invariant.3 in
-    let more = extended-next read reference words k here in
-    let call = c.write_word-to in
-    let next = rw (i, j) at call.ensures.0 in
-    let stored = rw (i, j) at call.ensures.1 in (
-      omega arith,
-      rw (total_more read_bases words k 0 here) (omega (arith, c.bases_of-bases.ensures.read)),
-      rw (total_more reference_bases words k 0 here) (omega (arith, c.bases_of-bases.ensures.reference)),
-      rw (more, length-append) (next ∙ omega (arith, to)),
-      omega (arith, next, length_word read reference (read_length (take k words)) (reference_length (take k words)) (get_or words k 0), c.bases_of-bases.ensures.read),
-      stored ∙ rw (c.loop-k.invariant.5, to, more) (rw zero-add at (sets_append args.output.now 0 done (extended_word read reference (read_length (take k words)) (reference_length (take k words)) (get_or words k 0)))),
+pub write_word-n-requires-clause-room : goal.write_word-n-requires-clause-room
+write_word-n-requires-clause-room c =
+    let at = (goal.at.write_word-n-requires-clause-room c).At-loop-word in
+    let l = left at c.loop-word-test.true in
+    simp (length-take, length-drop) (omega (arith, l.read, l.room, (accepted at).output))
+
+pub loop-word-preserved : goal.loop-word-preserved
+loop-word-preserved c =
+    let at = (goal.at.loop-word-preserved c).At-loop-word in
+    let l = left at c.loop-word-test.true in
+    let so_far = c.loop-word.invariant in
+    let done = so_far.0 in
+    let word = get_or c.args.words.now c.loop-word.word-index 0 in
+    let read = c.loop-word.read_left.now in
+    let reference = c.loop-word.reference_left.now in
+    let rest = drop (c.loop-word.word-index + 1) c.args.words.now in
+    let own = extended_word c.split_at.result.0.now c.split_at-in-loop-word.result.0.now 0 0 word in
+    let more = rw (next at c.loop-word-test.true, from_parts read reference word rest) at so_far.1 in
+    let bases = c.bases_of-bases.ensures in
+    let split = c.split_at.ensures in
+    let reference_split = c.split_at-in-loop-word.ensures in
+    let few = length_word c.split_at.result.0.now c.split_at-in-loop-word.result.0.now 0 0 word in (
+      done ++ own,
+      append_assoc done own _ ∙ rw (split.front, split.back, reference_split.front, reference_split.back, bases.read, bases.reference) more,
+      rw length-append (omega (arith, so_far.2, c.write_word-n.ensures.count)),
+      rw (c.write_word-n.ensures.stored, so_far.3, so_far.2) (written_behind done own c.args.output.now),
+      omega (arith, l.read, split.back_len, bases.read),
+      omega (arith, l.reference, reference_split.back_len, bases.reference),
+      omega (arith, split.back_len, so_far.6),
+      omega (arith, l.room, split.back_len, bases.read, c.write_word-n.ensures.count, few),
     )
 
-pub returns : goal.returns
-returns c =
-    let args = c.args in
-    let words = args.words.now in
-    let all : take c.loop-k.k words ≡ words = take_all c.loop-k.k words (omega arith) in
-    let count = rw all at c.loop-k.invariant.3 in
-    (count, (rw all at c.loop-k.invariant.5) ∙ sets_written (extended words args.read.now args.reference.now) args.output.now (omega (arith, count, (accepted (goal.at.returns c).At-loop-k).few, (accepted (goal.at.returns c).At-loop-k).output, c.loop-k.invariant.4, (accepted (goal.at.returns c).At-loop-k).short, c.loop-k.invariant.1, rw all at c.loop-k.invariant.1)))
+-- no operation is left
+whole : (c : At-loop-word) → length c.args.words.now ≤ c.loop-word.word-index → c.loop-word.invariant.0 ≡ extended c.args.words.now c.args.read.now c.args.reference.now
+unfolding extended_from
+whole c none = sym (append-nil c.loop-word.invariant.0) ∙ rw (drop_of_length-le c.args.words.now {i = c.loop-word.word-index} none) at c.loop-word.invariant.1
+
+pub returns-clause-count : goal.returns-clause-count
+returns-clause-count c = rw (whole (goal.at.returns-clause-count c).At-loop-word c.loop-word-test.false) at c.loop-word.invariant.2
+
+pub returns-clause-stored : goal.returns-clause-stored
+returns-clause-stored c = rw (whole (goal.at.returns-clause-stored c).At-loop-word c.loop-word-test.false) at c.loop-word.invariant.3

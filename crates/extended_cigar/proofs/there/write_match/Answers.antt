@@ -1,60 +1,50 @@
-use mathlib.Core.List.{[], ◌∷◌, ◌++◌, append_assoc}
-use mathlib.Core.Path.{◌≡◌, refl, sym, ◌∙◌, ap}
-use Prim.Native.Nat.{ℕ, ◌+◌}
-use native.Mathlib.Omega.{arith}
-use borrow.Author.Tests.{eq-eqb, ne_eqb}
-use lib.ListN.{length-append}
-use Rattle.lists.proofs.Sets.{sets_append}
-use Rattle.raw_bam.specs.Cigar.{op_code}
+use Rattle.std.proofs.Common.{◌≡◌, ◌+◌, ◌-◌, ◌*◌, ◌/◌, ◌<◌, ◌≤◌, ◌++◌, ◌∷◌, [], false, get_or, arith}
+use Rattle.std.proofs.Math.Dec.{eqb}
+use Rattle.std.proofs.Math.Nat.{zero-add}
+use Rattle.std.proofs.Math.Numerals.{add-one}
+use Rattle.std.proofs.lemmas.Bool.{eq-eqb, ne_eqb, eqb-true}
+use Rattle.lists.specs.Tabulate.{tabulate}
+use Rattle.raw_bam.specs.Cigar.{op_code, op_length}
 use Rattle.raw_bam.specs.Simplified.{joined_word}
-use Rattle.extended_cigar.proofs.More.{run_one, run_more}
+use Rattle.raw_bam.proofs.Joining.{joining, joined_none, length_join, last_counts, joins_last, begins_entry}
+use Rattle.extended_cigar.specs.Extended.{base_by_base}
+use Rattle.extended_cigar.proofs.Runs.{length_base, total_bases}
 use Rattle.extended_cigar.proofs.there.write_match.Goals as goal
-use Rattle.extended_cigar.proofs.there.write_match.Goals.{then-last-word, else-last-word}
+use Rattle.extended_cigar.proofs.there.write_match.Goals.{then-n-gt0+then-output-n, else-n-gt0, else-n-gt0-via-then-n-gt0+else-output-n, else-n-gt0-via-else-n-gt0}
 
 pub loop-k-init : goal.loop-k-init
-loop-k-init c =
-    let args = c.args in
-    let same : args.to + 0 ≡ args.to = omega arith in
-    ([], omega (arith, c.requires.0), omega arith, same, refl, run_one args.read.now args.reference.now args.at.read args.at.reference ∙ ap (λ (w : ℕ). w ∷ []) (sym c.base_word-last.ensures.0), omega (arith, c.base_word-last.ensures.1))
+unfolding base_by_base tabulate
+loop-k-init c = record { done = joined_none eqb c.args.output.now; few = omega arith }
+
+pub overflow_add-output : goal.overflow_add-output
+overflow_add-output c =
+    let read = c.args.read.now in
+    let reference = c.args.reference.now in
+    let k = c.loop-k.k in
+    let last = get_or c.loop-k.output (c.loop-k.n - 1) 0 in
+    let short : op_length last ≤ k = rw total_bases at (last_counts eqb eqb-true c.loop-k.invariant.done 0 op_length (λ x y e. length_join x y) c.if-n-gt0.true) in
+    let one : op_length c.base_word-word.result ≡ 1 = rw c.base_word-word.ensures (length_base (get_or read k 0) (get_or reference k 0)) in
+    omega (arith, short, one)
 
 pub loop-k-preserved : goal.loop-k-preserved
+unfolding base_by_base tabulate
 loop-k-preserved c =
-    let args = c.args in
-    let done = c.loop-k.invariant.0 in
-    let last = c.loop-k.last in
+    let at = c.loop-k in
+    let last = get_or at.output (at.n - 1) 0 in
     let word = c.base_word-word.result in
-    let with-next = run_more args.read.now args.reference.now args.at.read args.at.reference c.loop-k.k done last c.base_word-word.ensures.0 c.loop-k.invariant.5 in
-    elim c.if-last-word.branch [
-      | then-last-word w ↦ (
-          let same = eq-eqb (op_code last) (op_code word) w.if-last-word.true in
-          let longer : joined_word last word ≡ c.if-last-word.last = omega (arith, w.last-is) in (
-            done,
-            omega arith,
-            omega (arith, w.n-is),
-            c.loop-k.invariant.3 ∙ sym w.n-is,
-            w.output-is ∙ c.loop-k.invariant.4,
-            rw (same, longer) at with-next,
-            omega (arith, w.last-is, c.base_word-word.ensures.1),
-          ))
-      | else-last-word w ↦ (
-          let differ = ne_eqb (op_code last) (op_code word) w.if-last-word.false in
-          let n = c.loop-k.invariant.3 in (
-            done ++ (last ∷ []),
-            omega arith,
-            rw (length-append done (last ∷ [])) (omega arith),
-            rw (length-append done (last ∷ [])) (omega (arith, w.n-is)),
-            w.output-is ∙ rw (c.loop-k.invariant.4, ← n) (sets_append args.output.now args.to done (last ∷ [])),
-            (rw differ at with-next) ∙ rw w.last-is (sym (append_assoc done (last ∷ []) (word ∷ []))),
-            omega (arith, w.last-is, c.base_word-word.ensures.1),
-          ))
+    let more : base_by_base c.args.read.now c.args.reference.now 0 0 (at.k + 1) ≡ base_by_base c.args.read.now c.args.reference.now 0 0 at.k ++ (word ∷ []) =
+    rw (add-one, zero-add, c.base_word-word.ensures) in
+    elim c.if-n-gt0.branch [
+      | then-n-gt0+then-output-n w ↦
+          let longer : last + word / 16 * 16 ≡ joined_word last word = omega arith in
+          record {
+            done = rw (more, w.n-is, w.output-is, longer) (joins_last eqb eqb-true at.invariant.done word w.if-n-gt0.true (eq-eqb (op_code last) (op_code word) w.if-output-n.true));
+            few = omega arith;
+          }
+      | else-n-gt0 w ↦
+          let other : (0 < at.n → joining eqb last word ≡ false) = elim w.else-n-gt0.branch [
+            | else-n-gt0-via-then-n-gt0+else-output-n v ↦ λ some. ne_eqb (op_code last) (op_code word) v.if-output-n.false
+            | else-n-gt0-via-else-n-gt0 v ↦ λ some. absurd (omega (arith, v.if-n-gt0.false))
+          ] in
+          record { done = rw (more, w.n-is, w.output-is) (begins_entry eqb eqb-true at.invariant.done word (omega arith) other); few = omega arith }
     ]
-
-pub returns : goal.returns
-returns c =
-    let args = c.args in
-    let done = c.loop-k.invariant.0 in
-    let end : c.loop-k.k ≡ args.bases = omega arith in
-    let whole = rw end at c.loop-k.invariant.5 in (
-      rw (whole, length-append done (c.loop-k.last ∷ [])) (omega arith),
-      rw (whole, c.loop-k.invariant.4, ← c.loop-k.invariant.3) (sets_append args.output.now args.to done (c.loop-k.last ∷ [])),
-    )

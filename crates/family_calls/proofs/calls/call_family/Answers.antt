@@ -1,60 +1,51 @@
 -- Selection chose among the family's records, and the call on what it chose is the family's.
 use mathlib.Core.List.{List}
-use mathlib.Core.Path.{◌≡◌, sym, subst}
+use mathlib.Core.Path.{◌≡◌, refl, sym, ◌∙◌, subst}
 use Prim.Native.Nat.{ℕ, ◌≤◌}
-use native.Mathlib.Omega.{arith}
-use borrow.Author.Rules.{rules}
-use lib.ListN.{length, take}
-use Rattle.codec_duplex.specs.Columns.{strand}
+use Rattle.std.proofs.Common.{take}
 use Rattle.codec_records.specs.Records.{Holds, room_of}
 use Rattle.codec_records.specs.declared.records.Record.{Record}
-use Rattle.codec_caller.specs.Settling.{Chose}
-use Rattle.codec_caller.specs.Settling.{Selected}
-use Rattle.family_text.specs.Family.{family as family_of}
-use Rattle.strand_lines.specs.Strands.{held}
+use Rattle.codec_caller.specs.Settling.{Chose, Selected}
+use Rattle.family_text.specs.Shown.{family_in}
 use Rattle.family_calls.specs.Ledgers.{records_of}
-use Rattle.family_calls.proofs.Ledgers.{lent_for, kept_for}
-use Rattle.family_calls.proofs.Records.{table_records}
+use Rattle.family_calls.proofs.Ledgers.{kept_for}
+use Rattle.family_calls.proofs.Records.{gathered}
 use Rattle.family_calls.proofs.Short.{answer_short}
 use Rattle.family_calls.proofs.calls.call_family.Goals as goal
 use Rattle.family_calls.proofs.calls.call_family.Goals.{After-select_fates-chosen}
 
 -- what selection chose among the family's records
-abbrev chosen : (c : After-select_fates-chosen) → Chose c.args.found.options c.args.found.records c.select_fates-chosen.result
+abbrev chosen : (c : After-select_fates-chosen) → Chose c.args.family.now.header.options c.select_fates-chosen.result
 chosen c =
-    let records : List Record = records_of c.args.table c.args.found.records in
-    let whole : length c.args.table ≡ 512 = search rules in
-    let holding = table_records _ c.args.table c.args.found.records whole c.gather-gathered.ensures.held in
-    let given : c.gather-gathered.result.given ≡ c.args.found.records = c.gather-gathered.ensures.given in
-    let held = subst (λ (n : ℕ). n ≤ 512 → Holds c.gather-gathered.result n records) (sym given) holding.1 in
+    let family = c.args.family.now in
+    let n = family.header.records in
+    let columns = c.gather-gathered.result in
+    let answer = c.select_fates-chosen.result in
+    let records : List Record = records_of family.records.now n in
+    let held = gathered columns family.records.now n family.counted c.gather-gathered.ensures.held in
+    let given : columns.given ≡ n = c.gather-gathered.ensures.given in
+    let holds = subst (λ (m : ℕ). m ≤ 512 → Holds columns m records) (sym given) held.1 in
+    let as_given : answer.given ≡ columns.given = c.select_fates-chosen.ensures.given in
     record {
       records = records;
-      ops = take c.args.found.words c.args.ops.now;
-      size = holding.0;
-      selected = subst (λ (n : ℕ). Selected c.args.found.options n records (take c.args.found.words c.args.ops.now) c.select_fates-chosen.result.decision (take (room_of n) c.select_fates-chosen.result.fates)) given (c.select_fates-chosen.ensures records held);
+      ops = family.words.now;
+      size = held.0 ∙ sym (as_given ∙ given);
+      selected = subst (λ (m : ℕ). Selected family.header.options m records family.words.now answer.decision (take (room_of m) answer.fates)) (sym as_given) (c.select_fates-chosen.ensures.selected records holds);
     }
 
-pub consensus_reads_sampled-requires : goal.consensus_reads_sampled-requires
-consensus_reads_sampled-requires c = chosen (goal.at.consensus_reads_sampled-requires c).After-select_fates-chosen
+pub consensus_reads_sampled-answer-requires : goal.consensus_reads_sampled-answer-requires
+consensus_reads_sampled-answer-requires c = chosen (goal.at.consensus_reads_sampled-answer-requires c).After-select_fates-chosen
 
--- what the call tells is an ending's
-pub answer-requires : goal.answer-requires
-answer-requires c =
-    let family = chosen (goal.at.answer-requires c).After-select_fates-chosen in
-    (_, sym (c.consensus_reads_sampled.ensures family.records family.ops family.size family.selected).results.ended)
-
-pub returns-clause-kept : goal.returns-clause-kept
-returns-clause-kept c =
-    let family = chosen (goal.at.returns-clause-kept c).After-select_fates-chosen in
-    let called = c.consensus_reads_sampled.ensures family.records family.ops family.size family.selected in
-    let args = c.args in
-    let header = c.requires.announced.0 in
-    let columns = c.requires.in_bounds in
-    let lists = c.requires.in_bounds_2 in
-    let room = lent_for args.found args.d_bases.now args.d_quals.now args.d_depths.now args.d_errors.now args.s1_bases.now args.s1_quals.now args.s1_depths.now args.s1_errors.now args.s2_bases.now args.s2_quals.now args.s2_depths.now args.s2_errors.now args.listed.now args.reasons.now args.marks.now (omega arith, omega arith, omega arith, omega arith) (omega arith, omega arith, omega arith, omega arith) (omega arith, omega arith, omega arith, omega arith) (omega arith, omega arith, omega arith) in
-    rw (← c.answer.ensures) at (kept_for (family_of args.found args.table (take args.found.words args.ops.now) (held args.r1 (strand args.r1_bases.now args.r1_quals.now args.r1_depths.now args.r1_errors.now)) (held args.r2 (strand args.r2_bases.now args.r2_quals.now args.r2_depths.now args.r2_errors.now))) args.sample _ _ _ _ _ _ room called)
+pub returns-clause-handed_on : goal.returns-clause-handed_on
+returns-clause-handed_on c =
+    let family = chosen (goal.at.returns-clause-handed_on c).After-select_fates-chosen in
+    let called = c.consensus_reads_sampled-answer.ensures.called family.records family.ops family.size family.selected in
+    record {
+      kept = rw (← c.unwrap_or-sample.ensures) (kept_for (family_in c.args.family.now) c.unwrap_or-sample.result _ _ _ _ _ _ c.lend-lent.ensures called);
+      sample = refl;
+    }
 
 pub returns-clause-short : goal.returns-clause-short
 returns-clause-short c =
     let family = chosen (goal.at.returns-clause-short c).After-select_fates-chosen in
-    answer_short _ _ _ _ c.answer.result _ (rw (← c.answer.ensures) at (c.consensus_reads_sampled.ensures family.records family.ops family.size family.selected))
+    answer_short _ _ _ _ c.consensus_reads_sampled-answer.result _ (c.consensus_reads_sampled-answer.ensures.called family.records family.ops family.size family.selected)

@@ -1,16 +1,14 @@
--- By the tests: a line that is not ended, one that is malformed, a header.
-use mathlib.Core.Path.{sym}
-use native.Mathlib.Omega.{arith}
-use Rattle.line_text.proofs.Readings.{line_cut}
-use Rattle.family_text.specs.Family.{header_line}
-use Rattle.family_text.proofs.Calls.{header_announced, line_header}
+-- A line is read as the header that it says, which announces no more than there is room for.
+use Rattle.std.proofs.Common.{◌≡◌, rules, ◌∙◌}
+use Rattle.std.proofs.lemmas.Iterator.Adapters.{option_map_id}
+use Rattle.line_text.proofs.Readings.{line_reads}
+use Rattle.record_lines.specs.Header.{header_of}
+use Rattle.family_text.proofs.Calls.{read_announced}
 use Rattle.family_text.proofs.family.next_header.Goals as goal
 
-pub returns-then-text-end : goal.returns-then-text-end
-returns-then-text-end c = (sym (line_cut header_line _ _ _ c.part_end-end.ensures.0 (omega arith) c.if-text-end.true), omega arith)
+pub returns-clause-reads : goal.returns-clause-reads
+returns-clause-reads c = line_reads header_of (λ header. header) (λ line r said. let is : r ≡ header_of line.now = search rules in option_map_id r ∙ is) c.requires c.next_line.ensures
 
-pub returns-in_default : goal.returns-in_default
-returns-in_default c = (sym (rw c.in_default.is at (line_header _ _ _ c.part_end-end.ensures.0 (omega arith) c.if-text-end.false _ c.header_line.ensures)), omega arith)
-
-pub returns : goal.returns
-returns c = (sym (rw c.in-Found.is at (line_header _ _ _ c.part_end-end.ensures.0 (omega arith) c.if-text-end.false _ c.header_line.ensures)), omega arith, header_announced _ _ (rw c.in-Found.is at c.header_line.ensures))
+pub returns-clause-announced : goal.returns-clause-announced
+returns-clause-announced c =
+    read_announced _ _ _ (line_reads header_of (λ header. header) (λ line r said. let is : r ≡ header_of line.now = search rules in option_map_id r ∙ is) c.requires c.next_line.ensures)

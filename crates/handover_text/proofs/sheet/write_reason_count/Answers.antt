@@ -1,17 +1,9 @@
--- A line whose words are the name, and whose fields the colon and the count.
-use mathlib.Core.List.{[], ◌∷◌, ◌++◌}
-use Rattle.table_text.specs.Text.{bytes_of}
-use Rattle.table_text.proofs.Stores.{stored_then}
-use Rattle.answer_text.specs.Line.{fields_text}
-use Rattle.answer_text.proofs.Lines.{line_stored}
-use Rattle.handover_text.specs.Handover.{reason_name}
+use Rattle.std.proofs.Common.{rules}
+use Rattle.table_text.proofs.Pages.{appends_then}
+use Rattle.answer_text.specs.Line.{line_with}
 use Rattle.handover_text.specs.Sheet.{reason_text}
 use Rattle.handover_text.proofs.sheet.write_reason_count.Goals as goal
 
--- A line whose words are the name, and whose fields the colon and the count.
-pub returns-clause-stored : goal.returns-clause-stored
-unfolding reason_text
-returns-clause-stored c =
-    let args = c.args in
-    let fields = stored_then (bytes_of ":") (fields_text (args.count ∷ [])) _ _ c.write_words-at_count.ensures c.write_fields-end.ensures.stored in
-    line_stored (reason_name args.reason) (bytes_of ":" ++ fields_text (args.count ∷ [])) args.output.now args.to c.write_reason-at_colon.ensures.stored fields c.end_line.ensures
+pub returns-clause-appended : goal.returns-clause-appended
+unfolding reason_text line_with
+returns-clause-appended c = search (rules, appends_then)

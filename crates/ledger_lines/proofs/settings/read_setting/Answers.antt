@@ -2,18 +2,18 @@
 use Rattle.ledger_lines.specs.Settings.{setting_of}
 use Rattle.ledger_lines.proofs.settings.read_setting.Goals as goal
 
-pub returns-in-Until : goal.returns-in-Until
+pub returns-in-Some-clause-value : goal.returns-in-Some-clause-value
 unfolding setting_of
-returns-in-Until c = rw (← c.read_tag.ensures, c.in-Until.is) c.set_run.ensures
+returns-in-Some-clause-value c = rw (← c.in-Some.ensures, c.run_at.ensures)
 
-pub returns-in-Until-read_tag : goal.returns-in-Until-read_tag
+pub returns-in-Some-read_tag-clause-value : goal.returns-in-Some-read_tag-clause-value
 unfolding setting_of
-returns-in-Until-read_tag c = rw (← c.read_tag.ensures, c.in_default.is, ← c.read_tag-2.ensures, c.in-Until-read_tag.is) c.name_sample.ensures
+returns-in-Some-read_tag-clause-value c = rw (← c.in_default.ensures, ← c.in-Some-read_tag.ensures, c.name_at.ensures)
 
-pub returns-in-Until-read_pair : goal.returns-in-Until-read_pair
+pub returns-in-Some-read_tag-2-clause-value : goal.returns-in-Some-read_tag-2-clause-value
 unfolding setting_of
-returns-in-Until-read_pair c = rw (← c.read_tag.ensures, c.in_default.is, ← c.read_tag-2.ensures, c.in_default-read_tag.is, ← c.read_pair.ensures, c.in-Until-read_pair.is) c.set_sample.ensures
+returns-in-Some-read_tag-2-clause-value c = rw (← c.in_default.ensures, ← c.in_default-read_tag.ensures, ← c.in-Some-read_tag-2.ensures, c.sample_at.ensures.value)
 
-pub returns : goal.returns
+pub returns-clause-value : goal.returns-clause-value
 unfolding setting_of
-returns c = rw (← c.read_tag.ensures, c.in_default.is, ← c.read_tag-2.ensures, c.in_default-read_tag.is, ← c.read_pair.ensures, c.in_default-read_pair.is)
+returns-clause-value c = rw (← c.in_default.ensures, ← c.in_default-read_tag.ensures, ← c.in_default-read_tag-2.ensures)

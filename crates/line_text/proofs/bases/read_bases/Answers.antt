@@ -1,60 +1,44 @@
--- By the tests: no field, another field, an empty one, one that is too long, the bases.
-use mathlib.Core.Bool.{cond, ◌&&◌, and-false}
-use mathlib.Core.List.{List}
-use mathlib.Core.Path.{◌≡◌}
-use Prim.Native.Nat.{ℕ, ◌+◌, ◌-◌, ◌≤◌, ◌<◌}
-use native.Mathlib.Omega.{arith}
-use borrow.Author.Tests.{le-leb, lt-leb}
-use lib.Dec.{leb}
-use lib.ListN.{length, take, drop, length-drop}
-use lib.Seq.{length-take-le}
+-- By the tests: another tag, no field, more than one, a field that is too short or too long, bases.
+use Rattle.std.proofs.Common.{◌≡◌, ◌+◌, ◌-◌, ◌<◌, ◌≤◌, ℕ, Bool, true, false, List, [], refl, sym, arith, Some, None, cond, leb, ◌&&◌, length, take, drop}
+use Rattle.std.specs.Bool.{then_some}
+use Rattle.std.specs.Borrow.{Bor}
+use Rattle.std.specs.Option.{option_map}
 use Rattle.table_text.specs.Bytes.{index_of}
-use Rattle.table_text.proofs.FieldLists.{fields_none, fields_next, fields_some}
 use Rattle.table_text.specs.Fields.{fields_from}
+use Rattle.table_text.proofs.FieldLists.{fields_none, fields_next, fields_some}
 use Rattle.line_text.specs.Bases.{bases_of, bases_line}
-use Rattle.line_text.specs.Parsed.{parsed, unparsed}
 use Rattle.line_text.proofs.bases.read_bases.Goals as goal
 
-nonzero : (start end k : ℕ) → end ≡ start + k → (end ≡ start → ⊥) → 1 ≤ end - start
-nonzero start end k is n = omega arith
+shown : (t : Bool) (bases : Bor (List ℕ)) → option_map (λ b. b.now) (then_some t bases) ≡ cond t (Some bases.now) None
+shown true bases = refl
+shown false bases = refl
 
-module _ (line : List ℕ) (start end : ℕ) (inside : start ≤ length line) (is : end ≡ start + index_of 32 (drop start line)) (h : end ≤ length line) where
-  another : end < length line → bases_of (fields_from line start) ≡ unparsed
+module _ (line : List ℕ) (start : ℕ) where
+  none_follow : length line < start → bases_of (fields_from line start) ≡ Some []
   unfolding bases_of
-  another more = rw (fields_next line start end inside is h, (fields_some line (end + 1) (omega arith)).2)
+  none_follow past = rw (fields_none line start past)
 
-  only : length line ≤ end → bases_of (fields_from line start) ≡ cond (leb 1 (end - start) && leb (end - start) 1100) (parsed (take (end - start) (drop start line))) unparsed
+  more_follow : (end : ℕ) → start ≤ length line → end ≡ start + index_of 32 (drop start line) → end < length line → bases_of (fields_from line start) ≡ None
   unfolding bases_of
-  only last = rw (fields_next line start end inside is h, fields_none line (end + 1) (omega arith), length-take-le (end - start) (drop start line) (omega (arith, length-drop start line)))
+  more_follow end inside is h = rw (fields_next line start end inside is (omega arith), (fields_some line (end + 1) (omega arith)).2)
 
-pub returns-in_default-clause-result_value : goal.returns-in_default-clause-result_value
+  one_follows : (end : ℕ) → start ≤ length line → end ≡ start + index_of 32 (drop start line) → end ≤ length line → length line ≤ end
+      → bases_of (fields_from line start) ≡ cond (leb 1 (length (take (end - start) (drop start line))) && leb (length (take (end - start) (drop start line))) 1100) (Some (take (end - start) (drop start line))) None
+  unfolding bases_of
+  one_follows end inside is within whole = rw (fields_next line start end inside is within, fields_none line (end + 1) (omega arith))
+
+pub returns-in_err-start : goal.returns-in_err-start
 unfolding bases_line
-returns-in_default-clause-result_value c = rw (← c.read_tag.ensures, c.in_default.is)
+returns-in_err-start c = rw (c.from_residual.ensures, ← c.in_err-start.ensures)
 
-pub returns-then-line-start-clause-result_value : goal.returns-then-line-start-clause-result_value
-unfolding bases_line bases_of
-returns-then-line-start-clause-result_value c = rw (← c.read_tag.ensures, c.in-Until.is, fields_none _ _ c.if-line-start.true)
-
-pub returns-then-end-line-clause-result_value : goal.returns-then-end-line-clause-result_value
+pub returns-then-line-start : goal.returns-then-line-start
 unfolding bases_line
-returns-then-end-line-clause-result_value c =
-    let found = c.part_end-end.ensures in
-    rw (← c.read_tag.ensures, c.in-Until.is, another _ _ _ c.if-line-start.false found.0 found.1 c.if-end-line.true)
+returns-then-line-start c = rw (← c.in_ok-start.ensures) (sym (none_follow _ _ c.if-line-start.true))
 
-pub returns-then-end-start-clause-result_value : goal.returns-then-end-start-clause-result_value
+pub returns-then-end-line : goal.returns-then-end-line
 unfolding bases_line
-returns-then-end-start-clause-result_value c =
-    let found = c.part_end-end.ensures in
-    rw (← c.read_tag.ensures, c.in-Until.is, only _ _ _ c.if-line-start.false found.0 found.1 c.if-end-line.false, lt-leb 1 (c.part_end-end.result - c.in-Until.start) (omega (arith, c.if-end-start.true)))
+returns-then-end-line c = rw (← c.in_ok-start.ensures) (sym (more_follow _ _ _ c.if-line-start.false c.part_end-end.ensures.0 c.if-end-line.true))
 
-pub returns-then-end-start-gt1100-clause-result_value : goal.returns-then-end-start-gt1100-clause-result_value
+pub returns : goal.returns
 unfolding bases_line
-returns-then-end-start-gt1100-clause-result_value c =
-    let found = c.part_end-end.ensures in
-    rw (← c.read_tag.ensures, c.in-Until.is, only _ _ _ c.if-line-start.false found.0 found.1 c.if-end-line.false, lt-leb _ 1100 c.if-end-start-gt1100.true, and-false)
-
-pub returns-clause-result_value : goal.returns-clause-result_value
-unfolding bases_line
-returns-clause-result_value c =
-    let found = c.part_end-end.ensures in
-    rw (← c.read_tag.ensures, c.in-Until.is, only _ _ _ c.if-line-start.false found.0 found.1 c.if-end-line.false, le-leb 1 (c.part_end-end.result - c.in-Until.start) (nonzero _ _ _ found.0 c.if-end-start.false), le-leb _ 1100 c.if-end-start-gt1100.false)
+returns c = rw (← c.in_ok-start.ensures, one_follows _ _ _ c.if-line-start.false c.part_end-end.ensures.0 c.part_end-end.ensures.1 c.if-end-line.false, c.then_some.ensures) (shown _ _)

@@ -1,15 +1,9 @@
-use mathlib.Core.List.{List}
-use mathlib.Core.Path.{◌≡◌}
-use Prim.Native.Nat.{ℕ, ◌-◌, ◌≤◌}
-use lib.ListN.{length}
-use Rattle.lists.specs.Written.{written}
+-- The column holds the numbers of the fields passed; the fields left are those for which there is still room.
+use Rattle.std.proofs.Common.{◌≡◌, ◌-◌, length, take, map}
 use Rattle.table_text.specs.Fields.{fields_from}
-use Rattle.line_text.specs.Numbers.{numbers_of}
-use Rattle.line_text.specs.Parsed.{after}
+use Rattle.line_text.specs.Numbers.{after, numbers_of}
 use Rattle.line_text.proofs.numbers.read_column.Given as goal
 
-abbrev pub invariant-loop-at : goal.invariant-loop-at
-invariant-loop-at l = (done : List ℕ) × (length done ≡ l.n) × (l.n ≤ l.room) × (l.column ≡ written done l.initial.column) × (length l.column ≡ length l.initial.column) × (numbers_of l.room l.limit (fields_from l.line l.start) ≡ after done (numbers_of (l.room - l.n) l.limit (fields_from l.line l.at)))
-
-abbrev pub decreases-loop-at : goal.decreases-loop-at
-decreases-loop-at l = l.room - l.n
+abbrev pub invariant-loop-n : goal.invariant-loop-n
+invariant-loop-n g l =
+    (length l.column ≡ length l.initial.column) × (numbers_of (length l.column) g.T.Entry.GREATEST (fields_from l.line l.start) ≡ after (map g.T.Entry.number (take l.n l.column)) (numbers_of (length l.column - l.n) g.T.Entry.GREATEST (fields_from l.line l.at)))

@@ -7,14 +7,14 @@ pub returns-then-line-at : goal.returns-then-line-at
 unfolding value_field
 returns-then-line-at c = rw (fields_none _ _ c.if-line-at.true)
 
-pub returns-in_default : goal.returns-in_default
+pub returns-in_err-value : goal.returns-in_err-value
 unfolding value_field
-returns-in_default c =
+returns-in_err-value c =
     let found = c.part_end-end.ensures in
-    rw (fields_next _ _ _ c.if-line-at.false found.0 found.1, ← c.read_value.ensures, c.in_default.is)
+    rw (fields_next _ _ _ c.if-line-at.false found.0 found.1, ← c.in_err-value.ensures, c.from_residual.ensures)
 
 pub returns : goal.returns
 unfolding value_field
 returns c =
     let found = c.part_end-end.ensures in
-    rw (fields_next _ _ _ c.if-line-at.false found.0 found.1, ← c.read_value.ensures, c.in-Found.is)
+    rw (fields_next _ _ _ c.if-line-at.false found.0 found.1, ← c.in_ok-value.ensures)

@@ -1,15 +1,16 @@
 -- The values of a well-formed line fit its layout.
+use Rattle.std.proofs.Common.{sym}
 use Rattle.line_text.proofs.Fits.{fit_line}
-use Rattle.record_lines.specs.Record.{record_kinds, record_limits, record_of}
+use Rattle.record_lines.specs.Record.{record_of}
 use Rattle.record_lines.proofs.record.record_line.Goals as goal
 
+pub returns-in_err-values : goal.returns-in_err-values
+unfolding record_of
+returns-in_err-values c = rw (c.from_residual.ensures, ← c.in_err-values.ensures)
+
 pub record_from-requires : goal.record_from-requires
-record_from-requires c = rw c.read_line-found.ensures (fit_line record_kinds record_limits 82 _ (rw c.read_line-found.ensures at c.if-found.true))
+record_from-requires c = (fit_line _ _ _ _ (sym c.in_ok-values.ensures)).each
 
-pub returns-then-found : goal.returns-then-found
+pub returns : goal.returns
 unfolding record_of
-returns-then-found c = rw (c.record_from.ensures, ← c.read_line-found.ensures, c.if-found.true)
-
-pub returns-else-found : goal.returns-else-found
-unfolding record_of
-returns-else-found c = rw (← c.read_line-found.ensures, c.if-found.false)
+returns c = rw (c.record_from.ensures, ← c.in_ok-values.ensures)

@@ -1,48 +1,44 @@
--- The table holds the records of the lines passed; the lines left are those of the records left.
-use mathlib.Core.List.{[], ◌∷◌, ◌++◌}
-use mathlib.Core.Path.{◌≡◌, refl, sym, ◌∙◌, ap}
-use Prim.Native.Nat.{◌+◌}
-use native.Mathlib.Nat.{sub-zero}
-use native.Mathlib.Omega.{arith}
-use lib.ListN.{length, length-append, length-replicate}
-use Rattle.codec_records.specs.Records.{blank}
-use Rattle.line_text.proofs.Readings.{line_cut, got_none}
-use Rattle.record_lines.specs.Records.{record_line, table_of}
-use Rattle.record_lines.proofs.Tables.{line_record, table_none, set_table, table_length, table_full, records_next, records_wrong, records_cut, records_end}
+-- The room holds the records of the lines passed; the lines left are those of the records left.
+use Rattle.std.proofs.Common.{◌≡◌, ◌+◌, rules, refl, sym, ◌∙◌, ap, [], ◌∷◌, ◌++◌, take, length-append, arith, Ok, Err}
+use Rattle.line_text.specs.Reading.{lines_from}
+use Rattle.std.proofs.Math.Nat.{sub-zero}
+use Rattle.line_text.proofs.Readings.{got_none}
+use Rattle.record_lines.proofs.Rows.{room_more, room_full, room_lent, records_next, records_stop, records_end}
 use Rattle.record_lines.proofs.records.next_records.Goals as goal
-use Rattle.record_lines.proofs.records.next_records.Goals.{else-i-lt-RECORDS, then-i-lt-RECORDS}
+use Rattle.record_lines.proofs.records.next_records.Goals.{then-i-lt-RECORDS, else-i-lt-RECORDS}
 
 pub loop-i-init : goal.loop-i-init
-loop-i-init c = ([], refl, omega arith, c.requires, c.blank_table-table.ensures ∙ table_none, omega (arith, ap length c.blank_table-table.ensures, length-replicate 512 blank), rw (sub-zero c.args.count) (sym (got_none _)))
+loop-i-init c = (c.told-room, c.requires, [], refl, refl, rw sub-zero (sym (got_none _)))
 
-pub returns-then-text-end : goal.returns-then-text-end
-returns-then-text-end c =
+pub returns-in_err-record-clause-reads : goal.returns-in_err-record-clause-reads
+returns-in_err-record-clause-reads c =
     let inv = c.loop-i.invariant in
-    let line = line_cut record_line _ _ _ c.part_end-end.ensures.0 (omega arith) c.if-text-end.true in
-    record { same = rw (records_cut c.args.text.now c.args.start c.args.count c.loop-i.at c.loop-i.i inv.0 c.loop-i-test.true inv.6 _ line); within = omega arith }
-
-pub returns-in_default : goal.returns-in_default
-returns-in_default c =
-    let inv = c.loop-i.invariant in
-    let line = rw c.in_default.is at (line_record _ _ _ c.part_end-end.ensures.0 (omega arith) c.if-text-end.false _ c.record_line.ensures) in
-    record { same = rw (records_wrong c.args.text.now c.args.start c.args.count c.loop-i.at c.loop-i.i inv.0 c.loop-i-test.true inv.6 _ line); within = omega arith }
+    let is : c.from_residual.result ≡ Err c.in_err-record.field-0.0 = search rules in
+    rw is
+    (record {
+      same = records_stop c.args.text.now c.args.start c.args.count c.loop-i.at c.loop-i.i inv.2 inv.5 c.loop-i-test.true _ c.in_err-record.ensures.same;
+      within = c.in_err-record.ensures.within;
+    })
 
 pub loop-i-preserved : goal.loop-i-preserved
 loop-i-preserved c =
     let inv = c.loop-i.invariant in
-    let r = c.in-Found.found in
-    let line = rw c.in-Found.is at (line_record _ _ _ c.part_end-end.ensures.0 (omega arith) c.if-text-end.false _ c.record_line.ensures) in
-    let table : c.if-i-lt-RECORDS.table ≡ table_of (inv.0 ++ (r ∷ [])) = elim c.if-i-lt-RECORDS.branch [ then-i-lt-RECORDS w ↦ w.table-is ∙ set_table _ _ _ _ inv.4 inv.1 w.if-i-lt-RECORDS.true | else-i-lt-RECORDS w ↦ w.table-is ∙ inv.4 ∙ table_full inv.0 r (omega (arith, w.if-i-lt-RECORDS.false, inv.1)) ] in (
-      inv.0 ++ (r ∷ []),
-      omega (arith, length-append inv.0 (r ∷ []), inv.1),
-      omega arith,
-      omega arith,
-      table,
-      ap length table ∙ table_length (inv.0 ++ (r ∷ [])),
-      records_next c.args.text.now c.args.start c.args.count c.loop-i.at c.loop-i.i inv.0 c.loop-i-test.true inv.6 r (c.part_end-end.result + 1) line,
+    let r = c.in_ok-record.record in
+    let filled : take (c.loop-i.i + 1) c.if-i-lt-RECORDS.room ≡ take 512 (inv.2 ++ (r ∷ [])) = elim c.if-i-lt-RECORDS.branch [
+      | then-i-lt-RECORDS w ↦ rw w.room-is (room_more _ inv.2 _ inv.0 inv.3 inv.4 r w.if-i-lt-RECORDS.true)
+      | else-i-lt-RECORDS w ↦ rw w.room-is (room_full _ inv.2 _ inv.0 inv.3 inv.4 r w.if-i-lt-RECORDS.false)
+    ] in (
+      c.if-i-lt-RECORDS.array_long,
+      c.in_ok-record.ensures.within,
+      inv.2 ++ (r ∷ []),
+      omega (arith, length-append inv.2 (r ∷ []), inv.3),
+      filled,
+      records_next c.args.text.now c.args.start c.args.count c.loop-i.at c.loop-i.i inv.2 inv.5 c.loop-i-test.true r c.in_ok-record.after c.in_ok-record.ensures.same,
     )
 
-pub returns : goal.returns
-returns c =
+pub returns-clause-reads : goal.returns-clause-reads
+returns-clause-reads c =
     let inv = c.loop-i.invariant in
-    record { same = rw (records_end c.args.text.now c.args.start c.args.count c.loop-i.at c.loop-i.i inv.0 c.loop-i-test.false inv.6, inv.4); within = inv.3 }
+    let all : c.loop-i.i ≡ c.args.count = omega arith in
+    let lent : take c.min.result c.loop-i.room ≡ take 512 inv.2 = rw (c.min.ensures, ← all) (room_lent _ inv.2 _ inv.0 inv.3 inv.4) in
+    record { same = ap (λ records. Ok (records, lines_from c.args.text.now c.loop-i.at)) lent ∙ records_end c.args.text.now c.args.start c.args.count c.loop-i.at c.loop-i.i inv.2 inv.5 c.loop-i-test.false; within = inv.1 }

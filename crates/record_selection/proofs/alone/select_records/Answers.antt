@@ -1,5 +1,5 @@
 -- The promise on lists that the columns hold, from what their first places give.
-use Rattle.std.proofs.Common.{◌≡◌, take, length}
+use Rattle.std.proofs.Common.{take}
 use Rattle.codec_records.specs.Records.{room_of}
 use Rattle.codec_select.specs.Alignments.{alignments}
 use Rattle.codec_select.specs.Steps.{CourseIn, selected}

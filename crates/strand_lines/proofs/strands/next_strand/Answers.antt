@@ -1,11 +1,18 @@
--- A strand that is not there takes no line and has no columns.
+-- A strand that does not follow takes no line.
+use Rattle.std.proofs.Common.{◌≡◌, rules, Err}
 use Rattle.strand_lines.specs.Strands.{strand_if}
 use Rattle.strand_lines.proofs.strands.next_strand.Goals as goal
 
-pub returns-then-present-clause-steps : goal.returns-then-present-clause-steps
+pub returns-then-not-follows : goal.returns-then-not-follows
 unfolding strand_if
-returns-then-present-clause-steps c = rw (c.in-Until.is, c.if-present.true) c.strand_at.ensures.steps
+returns-then-not-follows c = record { same = rw c.if-not-follows.true; within = c.requires }
 
-pub returns-else-present-clause-steps : goal.returns-else-present-clause-steps
+pub returns-in_err-strand : goal.returns-in_err-strand
 unfolding strand_if
-returns-else-present-clause-steps c = record { same = rw (c.in-Until.is, c.if-present.false, c.no_widths-else-present.ensures); within = rw c.in-Until.is at c.requires.0 }
+returns-in_err-strand c =
+    let is : c.from_residual.result ≡ Err c.in_err-strand.field-0.0 = search rules in
+    rw is (record { same = rw (c.if-not-follows.false, ← c.in_err-strand.ensures.same); within = c.in_err-strand.ensures.within })
+
+pub returns : goal.returns
+unfolding strand_if
+returns c = record { same = rw (c.if-not-follows.false, ← c.in_ok-strand.ensures.same); within = c.in_ok-strand.ensures.within }

@@ -4,7 +4,7 @@ use Rattle.table_text.specs.Decimal.{last_digits, decimal}
 use Rattle.table_text.specs.Duplex.{refusal_text}
 use Rattle.table_text.specs.OutputTable.{number_text}
 use Rattle.table_text.proofs.Pages.{appends_then, page_written}
-use Rattle.table_text.proofs.Stores.{length-number_text}
+use Rattle.table_text.proofs.Decimals.{length-number_text}
 use Rattle.table_text.proofs.duplex.write_refusal.Goals as goal
 
 -- `refused 13 `

@@ -1,7 +1,7 @@
 -- Five digits and the byte after them.
 use Rattle.std.proofs.Common.{ℕ, ◌^◌, ◌≤◌, ◌<◌, length, arith}
 use Rattle.table_text.specs.OutputTable.{number_text}
-use Rattle.table_text.proofs.Stores.{length-number_text}
+use Rattle.table_text.proofs.Decimals.{length-number_text}
 use Rattle.table_text.proofs.output_table.write_short.Goals as goal
 
 six : (n after : ℕ) → n < 2 ^ 16 → length (number_text n after) ≤ 6

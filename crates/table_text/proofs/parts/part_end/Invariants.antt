@@ -1,11 +1,8 @@
 -- The whole text from the place on is searched.
-use Rattle.std.proofs.Common.{length, ◌-◌, ◌≡◌, ◌+◌, ◌≤◌, drop}
+use Rattle.std.proofs.Common.{◌≡◌, ◌+◌, drop}
 use Rattle.table_text.specs.Bytes.{index_of}
 use Rattle.table_text.proofs.parts.part_end.Given as goal
 
 -- the byte stands nowhere before the end reached
 abbrev pub invariant-loop-end : goal.invariant-loop-end
-invariant-loop-end l = (l.at + index_of l.byte (drop l.at l.text) ≡ l.end + index_of l.byte (drop l.end l.text)) × (l.end ≤ length l.text)
-
-abbrev pub decreases-loop-end : goal.decreases-loop-end
-decreases-loop-end l = length l.text - l.end
+invariant-loop-end l = l.at + index_of l.byte (drop l.at l.text) ≡ l.end + index_of l.byte (drop l.end l.text)

@@ -1,9 +1,0 @@
--- Every base is looked at once.
-use Rattle.std.proofs.Common.{◌-◌, ◌≤◌}
-use Rattle.cigar_cases.proofs.extended.alternating.Given as goal
-
-abbrev pub invariant-loop-i : goal.invariant-loop-i
-invariant-loop-i l = l.i ≤ 1024
-
-abbrev pub decreases-loop-i : goal.decreases-loop-i
-decreases-loop-i l = 1024 - l.i

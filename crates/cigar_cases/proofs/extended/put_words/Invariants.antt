@@ -1,9 +1,0 @@
--- One word a turn.
-use Rattle.std.proofs.Common.{◌-◌, ◌≤◌, length}
-use Rattle.cigar_cases.proofs.extended.put_words.Given as goal
-
-abbrev pub invariant-loop-i : goal.invariant-loop-i
-invariant-loop-i g l = l.i ≤ length l.words
-
-abbrev pub decreases-loop-i : goal.decreases-loop-i
-decreases-loop-i g l = length l.words - l.i

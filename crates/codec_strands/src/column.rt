@@ -1,0 +1,40 @@
+// One column of a strand, turned round and padded.
+ghost use Rattle.std.specs.Prelude.{◌≡◌, ◌≤◌, length, take, replicate};
+ghost use Rattle.lists.specs.Written.{written};
+ghost use Rattle.codec_strands.specs.Strands.{turned, laid_column};
+
+use crate::layout::Layout;
+
+// std's fill asks of a type parameter that its clone cannot fail.
+fn fill<T: Copy>(out: &mut [T], value: T)
+    ensures { out.new ≡ replicate (length out.old) value }
+{
+    for place in out.iter_mut() {
+        *place = value;
+    }
+}
+
+// Turns the first n places round, if it is asked to. n and no part of the slice: what lies behind it is promised unchanged; the flag goes down,
+// since a clause on each column has it.
+pub fn turn<T>(column: &mut [T], n: usize, reversed: bool)
+    requires { n ≤ length column.old }
+    ensures { column.new ≡ written (turned reversed (take n column.old)) column.old }
+{
+    if reversed {
+        column[..n].reverse();
+    }
+}
+
+// Writes a column as its strand lies, with padding in the other places of the duplex.
+pub fn write_column<T: Copy>(column: &[T], pad: T, layout: Layout, out: &mut [T])
+    requires fits { length column.now ≤ layout.length }
+    requires room { layout.length ≤ length out.old }
+    ensures { out.new ≡ written (laid_column layout pad column.now) out.old }
+{
+    let out = &mut out[..layout.length];
+    fill(out, pad);
+    let start = layout.start(column.len());
+    let places = &mut out[start..start + column.len()];
+    places.copy_from_slice(column);
+    turn(places, column.len(), layout.reversed);
+}

@@ -1,0 +1,8 @@
+-- A page that is written on and written out.
+use Rattle.std.specs.Prelude.{◌≡◌, length}
+use Rattle.table_text.specs.declared.page.Page.{Page}
+
+-- whatever it has, its buffer is the same, and as long
+pub record KeepsBuffer (old new : Page) : Type 0 where
+  pub same_loan : new.bytes.ghost_name ≡ old.bytes.ghost_name
+  pub size : length new.bytes.now ≡ length old.bytes.now

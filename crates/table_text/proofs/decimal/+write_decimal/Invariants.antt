@@ -1,4 +1,0 @@
-use Rattle.table_text.proofs.decimal.+write_decimal.Given as goal
-
-abbrev pub decreases-write_decimal : goal.decreases-write_decimal
-decreases-write_decimal l = l.n
