@@ -11,7 +11,7 @@ use Rattle.std.proofs.lemmas.List.Sums.{sum_by-cons}
 use Rattle.codec_dispatch.specs.declared.dispatch.Dispatcher.{Dispatcher}
 use Rattle.codec_dispatch.specs.declared.dispatch.LaneRefusal.TheVariants.{NoSuchLane}
 use Rattle.codec_dispatch.specs.Dispatch.{count_of, waits, raised, next, lowered, after_turn}
-use Rattle.codec_dispatch.specs.Turns.{Answer, Served, Refused, answer_of_turn, Call, Add, Turn, Outcome, outcome_of, Turns, none, then, answers_of, turns_of, asks_turn, turns_in, serves_lane, is_served, distance}
+use Rattle.codec_dispatch.specs.Turns.{Answer, Served, Refused, answer_of_turn, Call, Add, Turn, Outcome, outcome_of, Turns, none, then, answers_of, turns_of, asks_turn, turns_in, serves_lane, is_served, distance, turns_to_serve}
 use Rattle.codec_dispatch.proofs.Lanes.{next_of, turn_as, add_as, add_keeps, turn_keeps, add_above, turn_above}
 
 -- more answers serve no fewer lanes
@@ -149,9 +149,9 @@ served_in_time lane (then {d} {call} {calls} {answers} rest) l w h = step d call
 -- 'within eight turns that are not refused, however many families others add'
 pub served_within_eight : {d : Dispatcher} {calls : List Call} {answers : List Answer} (lane : ℕ) → Turns d calls answers → lane ≤ 7 → waits d lane ≡ true
     → 8 ≤ length (turns_of answers)
-    → is_served lane (take 8 (turns_of answers)) ≡ true
+    → is_served lane (take turns_to_serve (turns_of answers)) ≡ true
 served_within_eight {d} {calls} {answers} lane chain l w h =
-    served_more lane (turns_of answers) (distance d lane + 1) 8 (omega arith) (served_in_time lane chain l w (omega arith))
+    served_more lane (turns_of answers) (distance d lane + 1) turns_to_serve (omega arith) (served_in_time lane chain l w (omega arith))
 
 -- for every list of calls there is such a chain, from any dispatcher, and one only
 pub chain_of : (d : Dispatcher) (calls : List Call) → Turns d calls (answers_of d calls)

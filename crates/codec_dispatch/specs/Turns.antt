@@ -79,6 +79,10 @@ is_served lane answers = list_any (serves_lane lane) answers
 abbrev pub distance : Dispatcher → ℕ → ℕ
 distance d lane = (lane + 7 - d.last) % 8
 
+-- 'a lane that waits is served within eight turns'
+abbrev pub turns_to_serve : ℕ
+turns_to_serve = 8
+
 -- how many of the calls are turns
 abbrev pub asks_turn : Call → Bool
 asks_turn (Add lane) = false
