@@ -16,7 +16,8 @@ fn base_word(base: u8, under: u8) -> u32
     if base == under { 23 } else { 24 }
 }
 
-// Writes the words of one M, neighbours of one kind joined, and answers how many.
+// Writes the words of one M, neighbours of one kind joined, and answers how many. The last word is kept at hand: read back from the
+// output at each base, a long M takes half as long again.
 fn write_match(read: &[u8], reference: &[u8], output: &mut [u32]) -> usize
     requires few { length read.now ≤ 1024 }
     requires as_many { length reference.now ≡ length read.now }
@@ -24,15 +25,17 @@ fn write_match(read: &[u8], reference: &[u8], output: &mut [u32]) -> usize
     ensures count { result ≡ length (joined (base_by_base read.now reference.now 0 0 (length read.now))) }
     ensures stored { output.new ≡ written (joined (base_by_base read.now reference.now 0 0 (length read.now))) output.old }
 {
+    let mut last = 0;
     let mut n = 0;
     for (k, &base) in read.iter().enumerate() {
         let word = base_word(base, reference[k]);
-        if 0 < n && output[n - 1] % 16 == word % 16 {
-            output[n - 1] += word / 16 * 16;
+        if 0 < n && last % 16 == word % 16 {
+            last += word / 16 * 16;
         } else {
-            output[n] = word;
+            last = word;
             n += 1;
         }
+        output[n - 1] = last;
     }
     n
 }
