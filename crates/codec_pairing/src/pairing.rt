@@ -3,7 +3,7 @@ ghost use Rattle.std.specs.Prelude.{true, None, Some, ◌≡◌, ℕ, ◌+◌, [
 ghost use Rattle.lists.specs.Tabulate.{tabulate};
 ghost use Rattle.lists.specs.Written.{written};
 ghost use Rattle.codec_pairing.specs.Pairing.{not_primary, remains};
-ghost use Rattle.codec_pairing.specs.Search.{has_name};
+ghost use Rattle.codec_pairing.specs.Search.{has_name, has_namesake_between};
 ghost use Rattle.codec_pairing.specs.Family.{name_of, is_namesake, namesakes_from, has_namesake, is_pair, later_of, opens_pair, fate_of, side_r1, side_r2};
 
 use caller::fates::{PASSED_OVER, UNDECIDED};
@@ -60,15 +60,28 @@ fn has_name(names: &[u32], name: u32) -> bool
     any
 }
 
+// Some record from one on and before another remains and has the name. All are asked with no branch, as above.
+fn has_namesake_between(family: &Family, name: u32, from: usize, to: usize) -> bool
+    requires { (from ≤ to) × (to ≤ length family.now.flags.now) }
+    ensures { result ≡ has_namesake_between family.now.flags.now family.now.names.now name from to }
+{
+    let mut any = false;
+    for k in from..to {
+        any |= (family.names[k] == name) & is_remaining(family.flags[k]);
+    }
+    any
+}
+
 // Some record from one on remains and has the name. Mostly none has the name at all.
 fn has_namesake(family: &Family, name: u32, from: usize) -> bool
     requires { from ≤ length family.now.flags.now }
     ensures { result ≡ has_namesake family.now name from }
 {
-    has_name(&family.names[from..], name) && next_namesake(family, name, from).is_some()
+    has_name(&family.names[from..], name) && has_namesake_between(family, name, from, family.len())
 }
 
-// The last record of record i's name that remains before it. A for, as above.
+// The last record of record i's name that remains before it: none is looked for where only records that do not remain have the name.
+// A for, as above.
 fn previous_namesake(family: &Family, i: usize) -> Option<usize>
     requires { i < length family.now.flags.now }
     ensures none { IfNone result (namesakes_from family.now (name_of family.now i) 0 ≡ namesakes_from family.now (name_of family.now i) i) }
@@ -76,7 +89,7 @@ fn previous_namesake(family: &Family, i: usize) -> Option<usize>
     ensures before { IfSome result (λ r. r < i) }
 {
     let name = family.names[i];
-    if !has_name(&family.names[..i], name) {
+    if !has_name(&family.names[..i], name) || !has_namesake_between(family, name, 0, i) {
         return None;
     }
     for k in (0..i).rev() {

@@ -1,9 +1,15 @@
-use Rattle.std.proofs.Common.{◌≡◌, ◌+◌, ◌-◌, ◌∙◌, sym, arith}
-use Rattle.codec_pairing.proofs.Namesakes.{none_before, passed_here}
+use Rattle.std.proofs.Common.{◌≡◌, ◌+◌, ◌-◌, ◌∙◌, sym, zero-le, arith}
+use Rattle.codec_pairing.proofs.Namesakes.{none_before, none_between, passed_here}
 use Rattle.codec_pairing.proofs.pairing.previous_namesake.Goals as goal
+use Rattle.codec_pairing.proofs.pairing.previous_namesake.Goals.{then-not-has_name-via-then-not-has_name, then-not-has_name-via-else-not-has_name+then-not-has_namesake_between}
 
 pub returns-then-not-has_name-clause-none : goal.returns-then-not-has_name-clause-none
-returns-then-not-has_name-clause-none c = none_before _ _ _ c.args.i (omega arith) c.args.family.now.alike.as_many_names (sym c.has_name.ensures ∙ c.if-not-has_name.true)
+returns-then-not-has_name-clause-none c =
+    elim c.then-not-has_name.branch [
+      | then-not-has_name-via-then-not-has_name w ↦ none_before _ _ _ c.args.i (omega arith) c.args.family.now.alike.as_many_names (sym c.has_name.ensures ∙ w.if-not-has_name.true)
+      | then-not-has_name-via-else-not-has_name+then-not-has_namesake_between w ↦
+          none_between _ _ _ 0 c.args.i zero-le (omega arith) (sym w.has_namesake_between.ensures ∙ w.if-not-has_namesake_between.true)
+    ]
 
 pub loop-k-preserved : goal.loop-k-preserved
 loop-k-preserved c =
