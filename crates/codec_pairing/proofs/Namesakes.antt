@@ -58,6 +58,17 @@ module _ (flags names : List ℕ) (name : ℕ) where
       let all : length flags - 0 ≡ i + (length flags - i) = omega arith in
       rw all (rw zero-add at (none_of (is_namesake flags names name) i 0 (length flags - i) (λ k _ below. not-namesake (take i names) none k k (simp length-take (omega arith)) (get_or-take i names k 0 (omega arith)))))
 
+  -- nor between two records
+  pub none_named_between : (from to : ℕ) → from ≤ to → to ≤ length flags → length names ≡ length flags → has_name (take (to - from) (drop from names)) name ≡ false → namesakes_from flags names name from ≡ namesakes_from flags names name to
+  unfolding namesakes_from
+  none_named_between from to order h alike none =
+      let all : length flags - from ≡ (to - from) + (length flags - to) = omega arith in
+      let end : from + (to - from) ≡ to = omega arith in
+      rw all (rw end at (none_of (is_namesake flags names name) (to - from) from (length flags - to) (λ k after below.
+      let place : from + (k - from) ≡ k = omega arith in
+      not-namesake (take (to - from) (drop from names)) none (k - from) k (simp (length-take, length-drop) (omega arith))
+      (get_or-take (to - from) (drop from names) (k - from) 0 (omega arith) ∙ get_or-drop from names (k - from) 0 ∙ ap (λ (j : ℕ). get_or names j 0) place))))
+
   -- nor from record i on
   none_after : (i : ℕ) → i ≤ length flags → length names ≡ length flags → has_name (take (length names - i) (drop i names)) name ≡ false → namesakes_from flags names name i ≡ []
   unfolding namesakes_from numbers_from
@@ -115,11 +126,6 @@ module _ (flags names : List ℕ) (name from to : ℕ) where
   pub asked-all : (k : ℕ) → to ≤ k → has_namesake_between flags names name k to ≡ false
   unfolding has_namesake_between is_some
   asked-all k h = rw (numbers_end (is_namesake flags names name) to k h)
-
--- up to the last record, it is the search for one from a record on
-pub between-all : (flags names : List ℕ) (name from : ℕ) → has_namesake_between flags names name from (length flags) ≡ has_namesake flags names name from
-unfolding has_namesake_between namesakes_from
-between-all flags names name from = refl
 
 -- a third record of the name
 pub third_found : (verdicts : List Bool) (one two : ℕ) (more : List ℕ) → is_some more ≡ true → is_pair verdicts (one ∷ two ∷ more) ≡ false
