@@ -1,5 +1,5 @@
 -- The remaining records of a name, read off a search for them.
-use mathlib.Core.Bool.{Bool, true, false, not, and-true, false≢true}
+use mathlib.Core.Bool.{Bool, true, false, not, ◌||◌, and-true, false≢true}
 use mathlib.Core.List.{List, [], ◌∷◌}
 use mathlib.Core.Logic.{⊎_elim}
 use mathlib.Core.Path.{◌≡◌, refl, sym, ◌∙◌, ap}
@@ -18,7 +18,7 @@ use Rattle.lists.specs.Numbers.{numbers_from}
 use Rattle.lists.proofs.Numbers.{numbers_first, numbers_yes, numbers_no, numbers_end, numbers_has}
 use Rattle.raw_bam.specs.Flags.{paired_flag, has_flag}
 use Rattle.codec_pairing.specs.Pairing.{not_primary, remains, is_namesake, namesakes_from, namesakes, is_pair, is_first, is_entered, fate_of, opens_pair, later_of}
-use Rattle.codec_pairing.specs.Search.{has_name, is_some, has_namesake}
+use Rattle.codec_pairing.specs.Search.{has_name, is_some, has_namesake, has_namesake_between}
 use Rattle.codec_pairing.proofs.Sides.{one_of_two, opens_namesakes, later-after}
 
 module _ (flags names : List ℕ) (name i : ℕ) where
@@ -58,6 +58,17 @@ module _ (flags names : List ℕ) (name : ℕ) where
       let all : length flags - 0 ≡ i + (length flags - i) = omega arith in
       rw all (rw zero-add at (none_of (is_namesake flags names name) i 0 (length flags - i) (λ k _ below. not-namesake (take i names) none k k (simp length-take (omega arith)) (get_or-take i names k 0 (omega arith)))))
 
+  -- nor between two records
+  pub none_named_between : (from to : ℕ) → from ≤ to → to ≤ length flags → length names ≡ length flags → has_name (take (to - from) (drop from names)) name ≡ false → namesakes_from flags names name from ≡ namesakes_from flags names name to
+  unfolding namesakes_from
+  none_named_between from to order h alike none =
+      let all : length flags - from ≡ (to - from) + (length flags - to) = omega arith in
+      let end : from + (to - from) ≡ to = omega arith in
+      rw all (rw end at (none_of (is_namesake flags names name) (to - from) from (length flags - to) (λ k after below.
+      let place : from + (k - from) ≡ k = omega arith in
+      not-namesake (take (to - from) (drop from names)) none (k - from) k (simp (length-take, length-drop) (omega arith))
+      (get_or-take (to - from) (drop from names) (k - from) 0 (omega arith) ∙ get_or-drop from names (k - from) 0 ∙ ap (λ (j : ℕ). get_or names j 0) place))))
+
   -- nor from record i on
   none_after : (i : ℕ) → i ≤ length flags → length names ≡ length flags → has_name (take (length names - i) (drop i names)) name ≡ false → namesakes_from flags names name i ≡ []
   unfolding namesakes_from numbers_from
@@ -84,23 +95,48 @@ pub alone : (verdicts : List Bool) (one : ℕ) → is_pair verdicts (one ∷ [])
 unfolding is_pair
 alone verdicts one = refl
 
--- two are, where there is no third
-module _ (flags names : List ℕ) (verdicts : List Bool) (name one two : ℕ) where
-  third : (more : List ℕ) → is_some more ≡ true → is_pair verdicts (one ∷ two ∷ more) ≡ false
-  unfolding is_some is_pair
-  third [] some = absurd (false≢true some)
-  third (three ∷ more) some = refl
+-- a search that finds none
+pub none_more : (more : List ℕ) → is_some more ≡ false → more ≡ []
+unfolding is_some
+none_more [] none = refl
+none_more (three ∷ more) none = absurd (false≢true (sym none))
 
-  no_third : (more : List ℕ) → is_some more ≡ false → is_pair verdicts (one ∷ two ∷ more) ≡ get_or verdicts one false
-  unfolding is_some is_pair
-  no_third [] none = refl
-  no_third (three ∷ more) none = absurd (false≢true (sym none))
+module _ (flags names : List ℕ) (name from to : ℕ) where
+  -- no record of the name stands between
+  pub none_between : from ≤ to → to ≤ length flags → has_namesake_between flags names name from to ≡ false → namesakes_from flags names name from ≡ namesakes_from flags names name to
+  unfolding has_namesake_between namesakes_from
+  none_between h within none =
+      let all : length flags - from ≡ (to - from) + (length flags - to) = omega arith in
+      let place : from + (to - from) ≡ to = omega arith in
+      let differs = λ (k : ℕ) (after : from ≤ k) (before : k < from + (to - from)).
+      false_from_ne_true _ (λ found.
+      let has = numbers_has (is_namesake flags names name) from (to - from) k after before found in
+      omega (arith, has.1, ap length (none_more _ none))) in
+      rw all (rw place at (none_of (is_namesake flags names name) (to - from) from (length flags - to) differs))
 
-  pub third_found : has_namesake flags names name (two + 1) ≡ true → is_pair verdicts (one ∷ two ∷ namesakes_from flags names name (two + 1)) ≡ false
-  third_found some = third _ some
+  -- one record more is asked
+  pub asked_more : (k : ℕ) → k < to → has_namesake_between flags names name k to ≡ is_namesake flags names name k || has_namesake_between flags names name (k + 1) to
+  unfolding has_namesake_between is_some
+  asked_more k h = by_test (is_namesake flags names name k) refl
+    where
+      by_test : (b : Bool) → is_namesake flags names name k ≡ b → is_some (numbers_from (is_namesake flags names name) k (to - k)) ≡ b || is_some (numbers_from (is_namesake flags names name) (k + 1) (to - (k + 1)))
+      by_test true e = rw (numbers_yes (is_namesake flags names name) to k h e)
+      by_test false e = rw (numbers_no (is_namesake flags names name) to k h e)
 
-  pub none_found : has_namesake flags names name (two + 1) ≡ false → is_pair verdicts (one ∷ two ∷ namesakes_from flags names name (two + 1)) ≡ get_or verdicts one false
-  none_found none = no_third _ none
+  pub asked-all : (k : ℕ) → to ≤ k → has_namesake_between flags names name k to ≡ false
+  unfolding has_namesake_between is_some
+  asked-all k h = rw (numbers_end (is_namesake flags names name) to k h)
+
+-- a third record of the name
+pub third_found : (verdicts : List Bool) (one two : ℕ) (more : List ℕ) → is_some more ≡ true → is_pair verdicts (one ∷ two ∷ more) ≡ false
+unfolding is_some is_pair
+third_found verdicts one two [] some = absurd (false≢true some)
+third_found verdicts one two (three ∷ more) some = refl
+
+-- two are a pair by the earlier one's verdict, where there is no third
+pub none_found : (flags names : List ℕ) (verdicts : List Bool) (name one two : ℕ) → has_namesake flags names name (two + 1) ≡ false → is_pair verdicts (one ∷ two ∷ namesakes_from flags names name (two + 1)) ≡ get_or verdicts one false
+unfolding is_pair
+none_found flags names verdicts name one two none = rw (none_more _ none)
 
 module _ (flags names : List ℕ) (verdicts : List Bool) (i : ℕ) where
   -- a record that does not remain opens nothing

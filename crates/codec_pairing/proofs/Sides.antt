@@ -92,13 +92,17 @@ module _ (flags names : List ℕ) (verdicts : List Bool) where
       let counted : length (numbers_from opens 0 n) ≡ count_below opens n = simp zero-add at (length_numbers opens 0 n) in
       omega (arith, count-both opens n)
 
+  -- also of those that were passed and are still to come
+  pub passed_half : (done more : List ℕ) → done ++ more ≡ earlier_records flags names verdicts → 2 * (length done + length more) ≤ length flags
+  passed_half done more e = omega (arith, earlier_half, length-append done more, ap length e)
+
   -- so that with a pair still to come fewer have been passed
-  pub passed_half : (done : List ℕ) (i : ℕ) → i < length flags → opens_pair flags names verdicts i ≡ true
+  pub passed_fewer : (done : List ℕ) (i : ℕ) → i < length flags → opens_pair flags names verdicts i ≡ true
       → done ++ numbers_from (opens_pair flags names verdicts) i (length flags - i) ≡ earlier_records flags names verdicts
       → 2 * (length done + 1) ≤ length flags
-  passed_half done i h opens e =
+  passed_fewer done i h opens e =
       let more = numbers_yes (opens_pair flags names verdicts) (length flags) i h opens in
-      omega (arith, earlier_half, ap length e, ap length more, length-append done (numbers_from (opens_pair flags names verdicts) i (length flags - i)))
+      omega (arith, passed_half done _ e, ap length more)
 
 -- what the answer of `later_of` tells
 pub opens_of_some : (opens : Bool) (later : ℕ) {r : ℕ} → Some r ≡ if opens then Some later else None → (opens ≡ true) × (r ≡ later)

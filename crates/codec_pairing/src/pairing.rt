@@ -3,7 +3,7 @@ ghost use Rattle.std.specs.Prelude.{true, None, Some, ◌≡◌, ℕ, ◌+◌, [
 ghost use Rattle.lists.specs.Tabulate.{tabulate};
 ghost use Rattle.lists.specs.Written.{written};
 ghost use Rattle.codec_pairing.specs.Pairing.{not_primary, remains};
-ghost use Rattle.codec_pairing.specs.Search.{has_name};
+ghost use Rattle.codec_pairing.specs.Search.{has_name, has_namesake_between};
 ghost use Rattle.codec_pairing.specs.Family.{name_of, is_namesake, namesakes_from, has_namesake, is_pair, later_of, opens_pair, fate_of, side_r1, side_r2};
 
 use caller::fates::{PASSED_OVER, UNDECIDED};
@@ -34,21 +34,6 @@ fn is_namesake(family: &Family, name: u32, i: usize) -> bool
     family.names[i] == name && is_remaining(family.flags[i])
 }
 
-// The next record of a name that remains, from one on. A for: of find the check does not see that none is passed over.
-fn next_namesake(family: &Family, name: u32, from: usize) -> Option<usize>
-    requires { from ≤ length family.now.flags.now }
-    ensures none { IfNone result (namesakes_from family.now name from ≡ []) }
-    ensures next { IfSome result (λ r. namesakes_from family.now name from ≡ r ∷ namesakes_from family.now name (r + 1)) }
-    ensures within { IfSome result (λ r. (from ≤ r) × (r < length family.now.flags.now)) }
-{
-    for i in from..family.len() {
-        if is_namesake(family, name, i) {
-            return Some(i);
-        }
-    }
-    None
-}
-
 // Some record has the name. All are asked, with no early end, so that many are at once.
 fn has_name(names: &[u32], name: u32) -> bool
     ensures { result ≡ has_name names.now name }
@@ -60,6 +45,60 @@ fn has_name(names: &[u32], name: u32) -> bool
     any
 }
 
+// Some record from one on and before another remains and has the name. All are asked with no branch, as above.
+fn has_namesake_between(family: &Family, name: u32, from: usize, to: usize) -> bool
+    requires { (from ≤ to) × (to ≤ length family.now.flags.now) }
+    ensures { result ≡ has_namesake_between family.now.flags.now family.now.names.now name from to }
+{
+    let mut any = false;
+    for k in from..to {
+        any |= (family.names[k] == name) & is_remaining(family.flags[k]);
+    }
+    any
+}
+
+// The first such record. They are gone through only where there is one: mostly none has the name at all, and one that has it may not
+// remain. A for: of find the check does not see that none is passed over.
+fn first_between(family: &Family, name: u32, from: usize, to: usize) -> Option<usize>
+    requires { (from ≤ to) × (to ≤ length family.now.flags.now) }
+    ensures none { IfNone result (namesakes_from family.now name from ≡ namesakes_from family.now name to) }
+    ensures next { IfSome result (λ r. namesakes_from family.now name from ≡ r ∷ namesakes_from family.now name (r + 1)) }
+    ensures found { IfSome result (λ r. is_namesake family.now name r ≡ true) }
+    ensures within { IfSome result (λ r. (from ≤ r) × (r < to)) }
+{
+    if !has_name(&family.names[from..to], name) {
+        return None;
+    }
+    if !has_namesake_between(family, name, from, to) {
+        return None;
+    }
+    for i in from..to {
+        if is_namesake(family, name, i) {
+            return Some(i);
+        }
+    }
+    None
+}
+
+// The next record of a name that remains, from one on: 64 are asked at once.
+fn next_namesake(family: &Family, name: u32, from: usize) -> Option<usize>
+    requires { from ≤ length family.now.flags.now }
+    ensures none { IfNone result (namesakes_from family.now name from ≡ []) }
+    ensures next { IfSome result (λ r. namesakes_from family.now name from ≡ r ∷ namesakes_from family.now name (r + 1)) }
+    ensures within { IfSome result (λ r. (from ≤ r) × (r < length family.now.flags.now)) }
+{
+    let n = family.len();
+    let mut start = from;
+    while start < n {
+        let end = start + (n - start).min(64);
+        if let Some(i) = first_between(family, name, start, end) {
+            return Some(i);
+        }
+        start = end;
+    }
+    None
+}
+
 // Some record from one on remains and has the name. Mostly none has the name at all.
 fn has_namesake(family: &Family, name: u32, from: usize) -> bool
     requires { from ≤ length family.now.flags.now }
@@ -68,7 +107,7 @@ fn has_namesake(family: &Family, name: u32, from: usize) -> bool
     has_name(&family.names[from..], name) && next_namesake(family, name, from).is_some()
 }
 
-// The last record of record i's name that remains before it. A for, as above.
+// A record of record i's name that remains before it: one of the nearest 64 that hold any.
 fn previous_namesake(family: &Family, i: usize) -> Option<usize>
     requires { i < length family.now.flags.now }
     ensures none { IfNone result (namesakes_from family.now (name_of family.now i) 0 ≡ namesakes_from family.now (name_of family.now i) i) }
@@ -79,10 +118,13 @@ fn previous_namesake(family: &Family, i: usize) -> Option<usize>
     if !has_name(&family.names[..i], name) {
         return None;
     }
-    for k in (0..i).rev() {
-        if is_namesake(family, name, k) {
+    let mut end = i;
+    while 0 < end {
+        let start = end - end.min(64);
+        if let Some(k) = first_between(family, name, start, end) {
             return Some(k);
         }
+        end = start;
     }
     None
 }

@@ -1,5 +1,6 @@
 -- Laws of the records of a side that stay.
-use Rattle.std.proofs.Common.{◌≡◌, ◌+◌, ◌≤◌, ◌<◌, ℕ, zero, suc, Bool, true, false, List, [], ◌∷◌, length, get_or, drop, drop-cons, refl, arith, add-one}
+use Rattle.std.proofs.Common.{◌≡◌, ◌+◌, ◌≤◌, ◌<◌, ℕ, zero, suc, Bool, true, false, List, [], ◌∷◌, length, get_or, take, drop, drop-cons, refl, arith, add-one}
+use lib.Seq.{take-nil}
 use Rattle.codec_records.specs.Side.{kept}
 
 -- the record at place k stays, or does not
@@ -16,6 +17,16 @@ pub kept-none : (side : List ℕ) → kept side [] ≡ []
 unfolding kept
 kept-none [] = refl
 kept-none (r ∷ side) = refl
+
+-- a record that has no flag is not asked
+pub kept-take : (side : List ℕ) (stays : List Bool) (n : ℕ) → length stays ≤ n → kept (take n side) stays ≡ kept side stays
+unfolding kept
+kept-take [] stays n h = rw (take-nil {A = ℕ} n)
+kept-take (r ∷ side) [] zero h = refl
+kept-take (r ∷ side) [] (suc n) h = refl
+kept-take (r ∷ side) (stay ∷ stays) zero h = absurd (omega arith)
+kept-take (r ∷ side) (true ∷ stays) (suc n) h = rw (kept-take side stays n (omega arith))
+kept-take (r ∷ side) (false ∷ stays) (suc n) h = kept-take side stays n (omega arith)
 
 pub length-kept : (side : List ℕ) (stays : List Bool) → length (kept side stays) ≤ length side
 unfolding kept

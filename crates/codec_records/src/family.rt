@@ -1,5 +1,18 @@
 // What the steps read of a family: its records as columns, and the operation words.
+ghost use Rattle.std.specs.Prelude.{◌≡◌, ◌+◌, ◌≤◌, ◌<◌, length, get_or, take, drop};
 ghost use Rattle.codec_records.specs.Alike.{Alike};
+
+// The part of the words that is a record's.
+pub fn operations_of<'a>(ops: &'a [u32], starts: &[u32], counts: &[u32], record: usize) -> &'a [u32]
+    requires has_start { «record» < length starts.now }
+    requires has_count { «record» < length counts.now }
+    requires part { get_or starts.now «record» 0 + get_or counts.now «record» 0 ≤ length ops.now }
+    ensures { result.now ≡ take (get_or counts.now «record» 0) (drop (get_or starts.now «record» 0) ops.now) }
+{
+    let start = starts[record] as usize;
+    let end = start + counts[record] as usize;
+    &ops[start..end]
+}
 
 // Columns and no slice of records: a scan over names or flags alone is compiled to run on many at once.
 #[derive(Clone, Copy)]
@@ -33,8 +46,6 @@ impl<'a> Family<'a> {
         requires part_in_bounds { get_or self.now.starts.now «record» 0 + get_or self.now.counts.now «record» 0 ≤ length self.now.ops.now }
         ensures { result.now ≡ operations_of self.now «record» }
     {
-        let start = self.starts[record] as usize;
-        let end = start + self.counts[record] as usize;
-        &self.ops[start..end]
+        operations_of(self.ops, self.starts, self.counts, record)
     }
 }

@@ -1,8 +1,25 @@
 // One side of a family: the numbers of its records, in given order.
 ghost use Rattle.std.specs.Prelude.{◌≡◌, ◌+◌, ◌≤◌, ◌<◌, List, ℕ, [], ◌∷◌, ◌++◌, length, take};
+ghost use Rattle.lists.specs.Written.{written};
 ghost use Rattle.codec_records.specs.Side.{kept};
 
 use std::marker::Model;
+
+// Moves the records that stay to the front, in given order, and answers how many they are. A column may be longer than the side.
+pub fn keep_staying(side: &mut [usize], stays: &[bool]) -> usize
+    requires { length stays.now ≤ length side.old }
+    ensures value { result ≡ length (kept side.old stays.now) }
+    ensures side_after { side.new ≡ written (kept side.old stays.now) side.old }
+{
+    let mut count = 0;
+    for (k, &stay) in stays.iter().enumerate() {
+        if stay {
+            side[count] = side[k];
+            count += 1;
+        }
+    }
+    count
+}
 
 // A name has one record on each side, so that half of a family's 512 records have room.
 // That they are below a family's number stays a clause: a side does not know its family.
@@ -63,14 +80,7 @@ impl Side {
         requires { length stays.now ≡ length self.old }
         ensures { self.new ≡ kept self.old stays.now }
     {
-        let mut count = 0;
-        for (k, &stay) in stays.iter().enumerate() {
-            if stay {
-                self.records[count] = self.records[k];
-                count += 1;
-            }
-        }
-        self.len = count;
+        self.len = keep_staying(&mut self.records, stays);
     }
 }
 

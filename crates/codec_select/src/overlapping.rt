@@ -1,13 +1,12 @@
 // Steps 6 and 7 of the two sides: the longest record of each, and what they share.
 ghost use Rattle.std.specs.Prelude.{◌≡◌};
-ghost use Rattle.codec_select.specs.Alignments.{alignments_in, Formed};
+ghost use Rattle.codec_select.specs.Alignments.{alignments, Formed};
 ghost use Rattle.codec_select.specs.Steps.{IsLongest, decision_of, overlapping};
 
 use crate::selection::Decision;
 use caller::reason::RejectionReason;
-use codec_records::family::Family;
 use codec_records::options::Options;
-use codec_sides::longest::longest_of;
+use codec_sides::longest::{longest_of, operations_of};
 use codec_window::window::{Aligned, Overlap, Pair};
 use raw_bam::flags::is_reverse;
 
@@ -19,18 +18,26 @@ pub struct Longest<'a> {
 
 // The longest of a side: of R1's, its orientation decides which side is negative.
 #[tactic(auto, unfolding(crate::specs::Steps::longest_record, crate::specs::Steps::is_negative))]
-fn longest_record<'a>(family: &Family<'a>, side: &[usize]) -> Longest<'a>
-    requires { Formed (alignments_in family.now) side.now }
-    ensures { IsLongest (alignments_in family.now) side.now result }
+fn longest_record<'a>(
+    flags: &[u16],
+    clipped: &[u32],
+    positions: &[u32],
+    starts: &[u32],
+    counts: &[u32],
+    ops: &'a [u32],
+    side: &[usize],
+) -> Longest<'a>
+    requires { Formed (alignments flags.now clipped.now positions.now starts.now counts.now ops.now) side.now }
+    ensures { IsLongest (alignments flags.now clipped.now positions.now starts.now counts.now ops.now) side.now result }
 {
-    let number = side[longest_of(family, side)];
+    let number = side[longest_of(ops, starts, counts, side)];
     Longest {
         aligned: Aligned {
-            ops: family.operations(number),
-            position: u64::from(family.positions[number]),
-            clipped_length: u64::from(family.clipped[number]),
+            ops: operations_of(ops, starts, counts, number),
+            position: u64::from(positions[number]),
+            clipped_length: u64::from(clipped[number]),
         },
-        is_negative: is_reverse(family.flags[number]),
+        is_negative: is_reverse(flags[number]),
     }
 }
 
@@ -53,13 +60,23 @@ fn decide(
     }
 }
 
-pub fn overlap_of_sides(family: &Family, options: Options, r1: &[usize], r2: &[usize]) -> Decision
-    requires formed { Formed (alignments_in family.now) r1.now }
-    requires formed_2 { Formed (alignments_in family.now) r2.now }
-    ensures { result ≡ overlapping options (alignments_in family.now) r1.now r2.now }
+pub fn overlap_of_sides(
+    flags: &[u16],
+    clipped: &[u32],
+    positions: &[u32],
+    starts: &[u32],
+    counts: &[u32],
+    ops: &[u32],
+    options: Options,
+    r1: &[usize],
+    r2: &[usize],
+) -> Decision
+    requires formed { Formed (alignments flags.now clipped.now positions.now starts.now counts.now ops.now) r1.now }
+    requires formed_2 { Formed (alignments flags.now clipped.now positions.now starts.now counts.now ops.now) r2.now }
+    ensures { result ≡ overlapping options (alignments flags.now clipped.now positions.now starts.now counts.now ops.now) r1.now r2.now }
 {
-    let first = longest_record(family, r1);
-    let second = longest_record(family, r2);
+    let first = longest_record(flags, clipped, positions, starts, counts, ops, r1);
+    let second = longest_record(flags, clipped, positions, starts, counts, ops, r2);
     let pair = Pair {
         r1: first.aligned,
         r2: second.aligned,

@@ -50,7 +50,17 @@ fn from_cap(family: &Family, options: Options, fates: &mut [u8], sides: &mut Sid
     }
     keep_lowest_ranking(family, options, &mut sides.r1, fates);
     keep_lowest_ranking(family, options, &mut sides.r2, fates);
-    let decision = overlap_of_sides(family, options, sides.r1.as_slice(), sides.r2.as_slice());
+    let decision = overlap_of_sides(
+        family.flags,
+        family.clipped,
+        family.positions,
+        family.starts,
+        family.counts,
+        family.ops,
+        options,
+        sides.r1.as_slice(),
+        sides.r2.as_slice(),
+    );
     conclude(decision, sides)
 }
 

@@ -38,7 +38,15 @@ pub fn keep_group(family: &Family, side: &mut Side, fates: &mut [u8])
         return;
     }
     let mut stays = [false; 256];
-    filter_to_most_common_alignment_raw(family, side.as_slice(), &mut stays);
+    filter_to_most_common_alignment_raw(
+        family.ops,
+        family.clipped,
+        family.starts,
+        family.counts,
+        family.flags,
+        side.as_slice(),
+        &mut stays,
+    );
     let fate = u8::from(RejectionReason::MinorityAlignment);
     drop_others(side, &stays[..n], fate, fates);
 }
@@ -57,7 +65,7 @@ pub fn keep_lowest_ranking(family: &Family, options: Options, side: &mut Side, f
     let n = side.len();
     let mut stays = [false; 256];
     cap_infos_to_lowest_ranking(
-        family,
+        family.ranks,
         options.max_reads_per_strand,
         side.as_slice(),
         &mut stays,

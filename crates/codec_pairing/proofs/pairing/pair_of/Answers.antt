@@ -9,7 +9,7 @@ returns-in_err-later-clause-value c = rw (c.requires.first, c.in_err-later.ensur
 
 pub returns-then-has_namesake-clause-value : goal.returns-then-has_namesake-clause-value
 returns-then-has_namesake-clause-value c =
-    rw (c.requires.first, c.in_ok-later.ensures.next, third_found _ _ _ _ _ _ (sym c.has_namesake.ensures ∙ c.if-has_namesake.true))
+    rw (c.requires.first, c.in_ok-later.ensures.next, third_found _ _ _ _ (sym c.has_namesake.ensures ∙ c.if-has_namesake.true))
 
 pub returns-clause-value : goal.returns-clause-value
 unfolding later_of

@@ -5,7 +5,7 @@ use Rattle.lists.proofs.Numbers.{numbers_yes, numbers_no, numbers_end}
 use Rattle.codec_records.specs.declared.side.Sides.{Sides}
 use Rattle.codec_pairing.specs.Pairing.{earlier_records, r1_of, r2_of, side_r1, side_r2}
 use Rattle.codec_pairing.specs.Family.{opens_pair, later_of}
-use Rattle.codec_pairing.proofs.Sides.{passed_half, opens_of_some, opens_not_of_none}
+use Rattle.codec_pairing.proofs.Sides.{passed_fewer, opens_of_some, opens_not_of_none}
 use Rattle.codec_pairing.proofs.pairing.write_sides.Goals as goal
 use Rattle.codec_pairing.proofs.pairing.write_sides.Goals.{At-loop-i, In-Some, in-Some, in_default, then-is_first, else-is_first}
 
@@ -18,7 +18,7 @@ room : (c : In-Some) → length c.loop-i.invariant.0 < 256
 room c =
     let f = c.args.family.now in
     let opens = opens_of_some (opens_pair f c.loop-i.i) (later_of f c.loop-i.i) c.in-Some.ensures.value in
-    omega (arith, passed_half f.flags.now f.names.now f.verdicts.now c.loop-i.invariant.0 c.loop-i.i (omega arith) opens.0 c.loop-i.invariant.1, f.alike.few)
+    omega (arith, passed_fewer f.flags.now f.names.now f.verdicts.now c.loop-i.invariant.0 c.loop-i.i (omega arith) opens.0 c.loop-i.invariant.1, f.alike.few)
 
 pub push-requires : goal.push-requires
 push-requires c = rw (c.loop-i.invariant.2, length-map) (room (goal.at.push-requires c).In-Some)
