@@ -1,2 +1,3 @@
+pub mod BasesAlone
 pub mod Fits
 pub mod Units

@@ -1,4 +1,5 @@
 pub mod Answer
+pub mod Bases
 pub mod Bytes
 pub mod Columns
 pub mod Combining

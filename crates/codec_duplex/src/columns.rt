@@ -7,6 +7,7 @@ ghost use Rattle.codec_duplex.specs.Kept.{each_length, columns_fit};
 ghost use Rattle.codec_duplex.specs.Lent.{kept_of, held, kept_in, held_in, SameLoans};
 ghost use Rattle.codec_duplex.specs.declared.position.Position.{Position as ThePosition};
 
+use crate::bases::combine_bases;
 use crate::counts::CountUnit;
 use crate::position::{Position, combine};
 use crate::strand::{Strand, StrandMut};
@@ -45,26 +46,6 @@ fn position_at<U: CountUnit>(s: &Strand<'_, U>, i: usize) -> Position
     }
 }
 
-// Apart from the depths and errors, so that the compiler takes sixteen positions at once.
-fn combine_bases<U: CountUnit>(
-    a: &Strand<'_, U>,
-    b: &Strand<'_, U>,
-    bases: &mut [u8],
-    quals: &mut [u8],
-)
-    requires first { HasLength (length a.now.bases.now) (held U.coding a.now) }
-    requires second { HasLength (length a.now.bases.now) (held U.coding b.now) }
-    requires room { (length a.now.bases.now ≤ length bases.old) × (length a.now.bases.now ≤ length quals.old) }
-    ensures bases { bases.new ≡ written (combined_column ThePosition.base (held U.coding a.now) (held U.coding b.now)) bases.old }
-    ensures quals { quals.new ≡ written (combined_column ThePosition.quality (held U.coding a.now) (held U.coding b.now)) quals.old }
-{
-    for i in 0..a.len() {
-        let Position { base, quality, .. } = combine(position_at(a, i), position_at(b, i));
-        bases[i] = base;
-        quals[i] = quality;
-    }
-}
-
 fn combine_counts<U: CountUnit>(
     a: &Strand<'_, U>,
     b: &Strand<'_, U>,
@@ -94,6 +75,6 @@ pub fn combine_columns<U: CountUnit>(
     ensures filled { Filled U.coding (held U.coding a.now) (held U.coding b.now) (kept_in out.old) (kept_in out.new) }
     ensures same { SameLoans out.old out.new }
 {
-    combine_bases(a, b, out.bases, out.quals);
+    combine_bases(a.bases, a.quals, b.bases, b.quals, out.bases, out.quals);
     combine_counts(a, b, out.depths, out.errors);
 }

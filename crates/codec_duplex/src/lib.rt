@@ -2,6 +2,7 @@
 #![tactic(auto)]
 
 pub mod answer;
+pub mod bases;
 pub mod columns;
 pub mod combining;
 pub mod counts;

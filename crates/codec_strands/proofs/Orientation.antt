@@ -1,11 +1,11 @@
 -- Laws of turned and padded columns, over the element type.
-use Rattle.std.proofs.Common.{◌≡◌, ℕ, zero, suc, ◌+◌, ◌-◌, ◌<◌, ◌≤◌, Bool, true, false, cond, List, ◌∷◌, ◌++◌, map, reverse, length, take, drop, replicate, set, refl, ◌∙◌, ap, arith}
-use Rattle.std.proofs.lemmas.List.{length-append, length-replicate, length-reverse, length-map, length-take-le, map-append, drop-replicate, places, same_lists, take_at, drop_at}
+use Rattle.std.proofs.Common.{◌≡◌, ℕ, zero, suc, ◌+◌, ◌-◌, ◌<◌, ◌≤◌, Bool, true, false, cond, List, [], ◌∷◌, ◌++◌, map, reverse, length, get_or, take, drop, replicate, set, refl, sym, ◌∙◌, ap, subst, arith}
+use Rattle.std.proofs.lemmas.List.{length-append, length-replicate, length-reverse, length-map, length-take-le, take_more, map-append, drop-replicate, places, same_lists, take_at, drop_at}
 use Rattle.std.proofs.lemmas.Grind.{common_steps}
 use borrow.Rule.Slice.PartMut.{put_mid}
 use Rattle.lists.specs.Written.{written}
 use lib.Seq.{take-length}
-use Rattle.lists.proofs.Written.{written-whole}
+use Rattle.lists.proofs.Written.{written_more, written-whole}
 use Rattle.lists.proofs.Reverse.{map-reverse}
 use Rattle.codec_strands.specs.Strands.{complement, turned, turned_bases, padded}
 
@@ -30,6 +30,20 @@ module _ {A : Type 0} where
       → column ≡ written (replicate i value) old
       → set column i value ≡ written (replicate (i + 1) value) old
   filled_more value old i h e = rw (e, length-replicate i value, length-replicate (i + 1) value) (same_lists _ _ (grind (arith, common_steps)) (λ k d within. grind (arith, common_steps)))
+
+  -- a column that is copied place by place, one place more
+  pub copied_more : (xs old : List A) {column : List A} {value : A} (i : ℕ) → i < length xs → length old ≡ length xs
+      → column ≡ written (take i xs) old
+      → value ≡ get_or xs i value
+      → set column i value ≡ written (take (i + 1) xs) old
+  copied_more xs old {column} {value} i h size e is =
+      let n : length (take i xs) ≡ i = length-take-le i xs (omega arith) in
+      let more : take (i + 1) xs ≡ take i xs ++ (value ∷ []) = take_more xs i value h ∙ ap (λ (v : A). take i xs ++ (v ∷ [])) (sym is) in
+      rw (e, more) (subst (λ (k : ℕ). set (written (take i xs) old) k value ≡ written (take i xs ++ (value ∷ [])) old) n (written_more (take i xs) old value (omega (arith, n))))
+
+  -- and when every place is
+  pub copied_all : (xs old : List A) {column : List A} (i : ℕ) → i ≡ length xs → length old ≡ length xs → column ≡ written (take i xs) old → column ≡ xs
+  copied_all xs old i end size e = e ∙ rw (end, take-length xs) (written-whole xs old (sym size))
 
   -- a column put over padding, at the place where it begins
   pub padded_put : (left : Bool) (pad : A) (n start k : ℕ) (xs : List A) → length xs ≤ n

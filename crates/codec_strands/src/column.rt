@@ -6,11 +6,26 @@ ghost use Rattle.codec_strands.specs.Strands.{turned, laid_column};
 use crate::layout::Layout;
 
 // std's fill asks of a type parameter that its clone cannot fail.
-fn fill<T: Copy>(out: &mut [T], value: T)
+pub(crate) fn fill<T: Copy>(out: &mut [T], value: T)
     ensures { out.new ≡ replicate (length out.old) value }
 {
     for place in out.iter_mut() {
         *place = value;
+    }
+}
+
+// Copies a column, turned round if it is asked to: each place is written once.
+fn copy_turned<T: Copy>(column: &[T], reversed: bool, places: &mut [T])
+    requires { length places.old ≡ length column.now }
+    ensures { places.new ≡ turned reversed column.now }
+{
+    if !reversed {
+        places.copy_from_slice(column);
+        return;
+    }
+    let n = column.len();
+    for i in 0..n {
+        places[i] = column[n - 1 - i];
     }
 }
 
@@ -35,6 +50,5 @@ pub fn write_column<T: Copy>(column: &[T], pad: T, layout: Layout, out: &mut [T]
     fill(out, pad);
     let start = layout.start(column.len());
     let places = &mut out[start..start + column.len()];
-    places.copy_from_slice(column);
-    turn(places, column.len(), layout.reversed);
+    copy_turned(column, layout.reversed, places);
 }
