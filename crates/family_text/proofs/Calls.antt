@@ -1,5 +1,6 @@
 -- Laws of reading a family call part by part.
-use Rattle.std.proofs.Common.{◌≡◌, ◌≤◌, ◌<◌, ℕ, suc, Bool, true, false, cond, eqb, List, [], ◌∷◌, length, get_or, drop, take, refl, ap, arith, Option, Some, None, Result, Ok, Err, IfOk}
+use Rattle.std.proofs.Common.{◌≡◌, ◌≤◌, ◌<◌, ℕ, suc, Bool, true, false, cond, eqb, List, [], ◌∷◌, length, get_or, drop, take, refl, ap, ◌∙◌, arith, Option, Some, None, Result, Ok, Err, IfOk}
+use Rattle.std.proofs.lemmas.Iterator.Adapters.{option_map_id}
 use Rattle.std.proofs.lemmas.List.{drop_all, length-take-le}
 use Rattle.std.proofs.Math.Seq.{drop-cons}
 use Rattle.std.specs.Borrow.{Bor}
@@ -8,10 +9,11 @@ use Rattle.table_text.specs.Parts.{Parts, last, ended, in_front, parts}
 use Rattle.line_text.specs.Fit.{Fitting}
 use Rattle.line_text.specs.Line.{line_of}
 use Rattle.line_text.specs.Numbers.{words_line}
-use Rattle.line_text.specs.Reading.{Reading, cut, mapped, line_then, one_line, lines_from, Reads}
+use Rattle.line_text.specs.Reading.{Reading, cut, mapped, line_then, one_line, lines_from, Reads, LineSaid}
 use Rattle.line_text.specs.declared.lines.Stop.{Stop}
 use Rattle.line_text.specs.declared.value.Value.{Value}
 use Rattle.line_text.proofs.Fits.{fit_line, plain_within}
+use Rattle.line_text.proofs.Readings.{line_reads}
 use Rattle.ledger_lines.specs.declared.settings.Handed.{Handed}
 use Rattle.record_lines.specs.Header.{header_layout, header_from, header_of}
 use Rattle.record_lines.specs.declared.header.Header.{Header}
@@ -50,6 +52,14 @@ read_announced text (ended line more) (Ok (h, at)) read = go (header_of line) re
         rw (ap (λ (r : Header × Parts). r.0) both) (header_announced line found is)
     go None is e = absurd cc
 read_announced text p (Err stop) read = tt
+
+-- a line is read as the header that it says, which announces no more than there is room for
+module _ {said : Bor (List ℕ) → Option Header → Type 0} {text : List ℕ} {at : ℕ} {r : Result (Header × ℕ) Stop} (inside : at ≤ length text) (read : LineSaid said text at r) (means : (line : Bor (List ℕ)) (h : Option Header) → said line h → h ≡ header_of line.now) where
+  pub header_reads : Reads (λ header. header) text r (one_line header_of (lines_from text at))
+  header_reads = line_reads header_of (λ header. header) (λ line h p. option_map_id h ∙ means line h p) inside read
+
+  pub header_announces : IfOk r (λ r. Announced r.0)
+  header_announces = read_announced _ _ _ header_reads
 
 -- a part of the room is lent for as many words as the header announces
 pub words_read : {text : List ℕ} (count : ℕ) (room : List ℕ) (p : Parts) {r : Result (Bor (List ℕ) × ℕ) Stop} → Reads (λ words. words.now) text r (one_line (words_line (length (take count room))) p) → count ≤ length room

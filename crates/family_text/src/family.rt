@@ -16,6 +16,7 @@ use record_lines::header::Header;
 use record_lines::{header, records};
 use strand_lines::strands;
 
+#[tactic(auto, using(crate::proofs::Calls::header_reads, crate::proofs::Calls::header_announces))]
 fn next_header(text: &[u8], at: usize) -> Result<(Header, usize), Stop>
     requires { at ≤ length text.now }
     ensures reads { Reads (λ header. header) text.now result (one_line header_of (lines_from text.now at)) }

@@ -1,5 +1,5 @@
 -- Document 02, Req 11: the answer of the check as numbers.
-use Rattle.std.specs.Prelude.{ℕ, Result, Ok, Err}
+use Rattle.std.specs.Prelude.{List, [], ◌++◌, ℕ, zero, suc, Result, Ok, Err, codes, decimal}
 use Rattle.partner_table.specs.declared.fault.Fault.{Fault}
 use Rattle.partner_table.specs.declared.fault.Fault.TheVariants.{Malformed, UnequalLines, Wrong}
 use Rattle.partner_table.specs.declared.fault.Field.{Field}
@@ -27,3 +27,18 @@ reported_check (Ok accepted) = record { kind = 0; number = 0; line = 0; field = 
 reported_check (Err (Wrong line field)) = record { kind = 1; number = 0; line = line; field = field_number field; table = 0 }
 reported_check (Err (Malformed whose line)) = record { kind = 2; number = 27; line = line; field = 0; table = table_number whose }
 reported_check (Err UnequalLines) = record { kind = 2; number = 28; line = 0; field = 0; table = 0 }
+
+-- ` TABLE`, where a refusal has one
+abbrev pub of_table : ℕ → List ℕ
+of_table zero = []
+of_table (suc n) = codes " " ++ decimal (suc n)
+
+-- the line of an answer, by its kind: `accepted`, `wrong LINE FIELD`, `refused NUMBER LINE` and its table
+abbrev pub answer_text : PartnerAnswer → (kind : ℕ) → List ℕ
+answer_text told zero = codes "accepted"
+answer_text told (suc zero) = codes "wrong " ++ decimal told.line ++ codes " " ++ decimal told.field
+answer_text told (suc (suc more)) = codes "refused " ++ decimal told.number ++ codes " " ++ (decimal told.line ++ of_table told.table)
+
+-- what `check-table` writes of a fault has the numbers that a host is told
+abbrev pub fault_text : Fault → List ℕ
+fault_text fault = answer_text (reported_check (Err fault)) (reported_check (Err fault)).kind

@@ -1,6 +1,6 @@
 // What is wrong with a partner's table, or with ours.
-ghost use Rattle.std.specs.Prelude.{◌≡◌};
-ghost use Rattle.partner_table.specs.Reported.{field_number, table_number};
+ghost use Rattle.std.specs.Prelude.{◌≡◌, Some};
+ghost use Rattle.partner_table.specs.Reported.{field_number, table_number, fault_text};
 
 use std::fmt;
 
@@ -45,6 +45,8 @@ pub enum Fault {
 }
 
 impl fmt::Display for Fault {
+    ghost output = { λ fault. Some (fault_text fault) };
+
     fn fmt<W: fmt::Write>(&self, f: &mut fmt::Formatter<W>) -> fmt::Result {
         match *self {
             Fault::Malformed { whose, line } => write!(f, "refused 27 {line} {}", u32::from(whose)),

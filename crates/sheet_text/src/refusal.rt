@@ -1,5 +1,7 @@
 // Refusals 10 and 21 of the sheet.
-ghost use Rattle.std.specs.Prelude.{◌≡◌};
+ghost use Rattle.std.specs.Prelude.{◌≡◌, ◌<◌};
+ghost use Rattle.codec_stats.specs.Ledger.{too_large};
+ghost use Rattle.sample_ledgers.specs.Samples.{ledger_at};
 ghost use Rattle.sheet_text.specs.Reported.{refusal_number};
 ghost use Rattle.sheet_text.specs.Sheet.{some_too_large, sheet_refusal};
 
@@ -24,12 +26,21 @@ impl From<SheetRefusal> for u32 {
     }
 }
 
-// Asked of a sample without a family too. A for: of any the check does not see that it is the definition's not all.
+// Asked of a sample without a family too.
+fn is_sample_too_large(samples: &[u64; 1920], sample: usize) -> bool
+    requires { sample < 96 }
+    ensures { result ≡ too_large (ledger_at samples.now sample) }
+{
+    let ledger = read_sample(samples, sample);
+    is_too_large(ledger)
+}
+
+// A for: of any the check does not see that it is the definition's not all.
 fn is_some_too_large(samples: &[u64; 1920]) -> bool
     ensures { result ≡ some_too_large samples.now }
 {
     for sample in 0..96 {
-        if is_too_large(read_sample(samples, sample)) {
+        if is_sample_too_large(samples, sample) {
             return true;
         }
     }

@@ -1,6 +1,7 @@
-// Decimals without leading zeros, read from a field.
-ghost use Rattle.std.specs.Prelude.{◌≡◌};
-ghost use Rattle.table_text.specs.Decimal.{plain, with_digit, digits_number, number};
+// Decimals without leading zeros, read from a field and written into a buffer.
+ghost use Rattle.std.specs.Prelude.{◌≡◌, ◌+◌, ◌≤◌, length};
+ghost use Rattle.std.proofs.lemmas.List.Edits.{sets};
+ghost use Rattle.table_text.specs.Decimal.{plain, with_digit, digits_number, number, decimal};
 
 // A 0 in front of another digit is not plain.
 fn starts_plain(field: &[u8]) -> bool
@@ -43,4 +44,20 @@ pub fn read_decimal(field: &[u8], limit: u64) -> Option<u64>
     } else {
         None
     }
+}
+
+// Writes the digits of n from place `to` on, and answers the place after them. The place goes on from digit to digit as a value: kept in a
+// page, each digit waits until the one before has stored it.
+pub fn write_decimal(n: u64, output: &mut [u8], to: usize) -> usize
+    requires { to + length (decimal n) ≤ length output.old }
+    ensures value { result ≡ to + length (decimal n) }
+    ensures output_after { output.new ≡ sets output.old to (decimal n) }
+{
+    if n < 10 {
+        output[to] = b'0' + n as u8;
+        return to + 1;
+    }
+    let last = write_decimal(n / 10, output, to);
+    output[last] = b'0' + (n % 10) as u8;
+    last + 1
 }

@@ -3,6 +3,7 @@ ghost use Rattle.std.specs.Prelude.{[], ◌∷◌, ◌≡◌, ◌-◌, ◌≤◌
 ghost use Rattle.table_text.specs.Decimal.{decimal};
 ghost use Rattle.table_text.specs.OutputTable.{number_text, position_text};
 
+use crate::decimal::write_decimal;
 use codec_duplex::position::Position;
 
 // The text is the bytes before `end`; those from there on are as they were lent.
@@ -56,10 +57,7 @@ impl<'a> Page<'a> {
         requires { HasRoom (length (decimal n)) self.old }
         ensures { Appends (decimal n) self.old self.new }
     {
-        if 10 <= n {
-            self.write_decimal(n / 10);
-        }
-        self.push(b'0' + (n % 10) as u8);
+        self.end = write_decimal(n, self.bytes, self.end);
     }
 
     // A number and the byte after it.

@@ -44,12 +44,11 @@ fn line_end(text: &[u8], line: usize, at: usize) -> Option<usize>
     requires { at < length text.now }
     ensures { LineRead text.now line at result }
 {
-    let end = parts::part_end(text, at, b'\n');
-    if line <= LAST_LINE && end < text.len() {
-        Some(end)
-    } else {
-        None
+    if LAST_LINE < line {
+        return None;
     }
+    let end = parts::part_end(text, at, b'\n');
+    if end < text.len() { Some(end) } else { None }
 }
 
 // Where the first row begins, if the names are a table's of such rows.

@@ -4,7 +4,7 @@ use Rattle.std.proofs.lemmas.Bool.{eqb-true}
 use Rattle.std.proofs.lemmas.List.{map-id, take_all, length-take-le}
 use Rattle.std.specs.Bool.{then_some}
 use Rattle.std.specs.Option.{option_map}
-use Rattle.codec_stats.specs.Counts.{ledger_of}
+use Rattle.codec_stats.specs.Counts.{ledger_by, ledger_of}
 use Rattle.line_text.specs.Numbers.{exactly}
 use Rattle.ledger_lines.specs.Settings.{figures_of}
 use Rattle.ledger_lines.proofs.settings.figures_at.Goals as goal
@@ -22,5 +22,5 @@ unfolding figures_of
 returns-in_err-n c = rw (c.from_residual.ensures, ← c.in_err-n.ensures.numbers)
 
 pub returns : goal.returns
-unfolding figures_of
+unfolding figures_of ledger_by
 returns c = rw (c.then_some.ensures, c.from.ensures, ← c.in_ok-n.ensures.numbers) (whole _ _ c.in_ok-n.ensures.size c.in_ok-n.ensures.bound)

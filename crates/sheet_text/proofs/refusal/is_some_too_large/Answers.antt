@@ -16,18 +16,18 @@ use Rattle.sheet_text.proofs.refusal.is_some_too_large.Goals as goal
 found : (samples : List ℕ) (sample : ℕ) (large : Bool) → sample < 96 → large ≡ too_large (ledger_at samples sample) → within_limits (get_or (samples_of samples) sample fresh) ≡ not large
 found samples sample large below e = ap within_limits (sample_read_lem samples sample below) ∙ ap not (sym e)
 
-pub returns-then-is_too_large : goal.returns-then-is_too_large
+pub returns-then-is_sample_too_large : goal.returns-then-is_sample_too_large
 unfolding some_too_large
-returns-then-is_too_large c =
+returns-then-is_sample_too_large c =
     let samples = c.args.samples.now in
     let sample = c.loop-sample.sample in
-    sym (ap not (list_all_fails within_limits (samples_of samples) sample fresh c.loop-sample.invariant (omega (arith, length-samples samples)) (found samples sample _ c.loop-sample-test.true (c.is_too_large.ensures ∙ ap too_large c.read_sample.ensures) ∙ ap not c.if-is_too_large.true)))
+    sym (ap not (list_all_fails within_limits (samples_of samples) sample fresh c.loop-sample.invariant (omega (arith, length-samples samples)) (found samples sample _ c.loop-sample-test.true c.is_sample_too_large.ensures ∙ ap not c.if-is_sample_too_large.true)))
 
 pub loop-sample-preserved : goal.loop-sample-preserved
 loop-sample-preserved c =
     let samples = c.args.samples.now in
     let sample = c.loop-sample.sample in
-    list_all-next within_limits (samples_of samples) sample fresh c.loop-sample.invariant (omega (arith, length-samples samples)) (found samples sample _ c.loop-sample-test.true (c.is_too_large.ensures ∙ ap too_large c.read_sample.ensures) ∙ ap not c.if-is_too_large.false)
+    list_all-next within_limits (samples_of samples) sample fresh c.loop-sample.invariant (omega (arith, length-samples samples)) (found samples sample _ c.loop-sample-test.true c.is_sample_too_large.ensures ∙ ap not c.if-is_sample_too_large.false)
 
 pub returns : goal.returns
 unfolding some_too_large

@@ -5,7 +5,6 @@ use Rattle.table_text.specs.Parts.{Parts, last, ended}
 use Rattle.table_text.specs.Reading.{may_hold}
 use Rattle.table_text.proofs.Partings.{part_ended, part_last}
 use Rattle.table_text.proofs.reading.line_end.Goals as goal
-use Rattle.table_text.proofs.reading.line_end.Goals.{else-line-le-LAST_LINE-via-then-line-le-LAST_LINE+else-end-text, else-line-le-LAST_LINE-via-else-line-le-LAST_LINE}
 
 past-last : (line : ℕ) (p : Parts) → 2049 < line → may_hold line p ≡ false
 past-last line (last text) h = refl
@@ -14,11 +13,7 @@ past-last line (ended text more) h = lt-leb line 2049 h
 pub returns-then-end-text : goal.returns-then-end-text
 returns-then-end-text c =
     let end = c.part_end-end.ensures.0 in
-    (c.if-line-le-LAST_LINE.true, omega arith, c.if-end-text.true, part_ended 10 _ _ _ end c.if-end-text.true)
+    (c.if-line-gt-LAST_LINE.false, omega arith, c.if-end-text.true, part_ended 10 _ _ _ end c.if-end-text.true)
 
-pub returns-else-line-le-LAST_LINE : goal.returns-else-line-le-LAST_LINE
-returns-else-line-le-LAST_LINE c =
-    elim c.else-line-le-LAST_LINE.branch [
-      | else-line-le-LAST_LINE-via-then-line-le-LAST_LINE+else-end-text w ↦ rw (part_last 10 _ _ _ c.part_end-end.ensures.0 (omega arith) w.if-end-text.false)
-      | else-line-le-LAST_LINE-via-else-line-le-LAST_LINE w ↦ past-last _ _ w.if-line-le-LAST_LINE.false
-    ]
+pub returns-else-end-text : goal.returns-else-end-text
+returns-else-end-text c = rw (part_last 10 _ _ _ c.part_end-end.ensures.0 (omega arith) c.if-end-text.false)
