@@ -3,7 +3,7 @@ ghost use Rattle.std.specs.Prelude.{map, ◌≡◌, ◌≤◌, length, take};
 ghost use Rattle.lists.specs.Written.{written};
 ghost use Rattle.codec_strands.specs.Strands.{complement, turned_bases, laid_bases};
 
-use crate::column::fill;
+use crate::column::{copy, fill};
 use crate::layout::Layout;
 use caller::phred::NO_CALL_BASE_LOWER;
 use codec_duplex::position::pick;
@@ -32,7 +32,7 @@ fn copy_bases(bases: &[u8], reversed: bool, places: &mut [u8])
     ensures { places.new ≡ turned_bases reversed bases.now }
 {
     if !reversed {
-        places.copy_from_slice(bases);
+        copy(bases, places);
         return;
     }
     let n = bases.len();

@@ -14,13 +14,23 @@ pub(crate) fn fill<T: Copy>(out: &mut [T], value: T)
     }
 }
 
+// A loop, of which the compiler makes one copy: copy_from_slice would have the archive for C ask for memmove.
+pub(crate) fn copy<T: Copy>(column: &[T], places: &mut [T])
+    requires { length places.old ≡ length column.now }
+    ensures { places.new ≡ column.now }
+{
+    for i in 0..column.len() {
+        places[i] = column[i];
+    }
+}
+
 // Copies a column, turned round if it is asked to: each place is written once.
 fn copy_turned<T: Copy>(column: &[T], reversed: bool, places: &mut [T])
     requires { length places.old ≡ length column.now }
     ensures { places.new ≡ turned reversed column.now }
 {
     if !reversed {
-        places.copy_from_slice(column);
+        copy(column, places);
         return;
     }
     let n = column.len();
