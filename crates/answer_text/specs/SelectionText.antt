@@ -1,5 +1,5 @@
 -- The text form, 'Output of selection alone': a line for how it ends, and the records that stay as mark words.
-use Rattle.std.specs.Prelude.{Bool, cond, List, [], ◌∷◌, ◌++◌, ℕ}
+use Rattle.std.specs.Prelude.{Bool, cond, List, [], ◌∷◌, ◌++◌, ◌≡◌, ℕ}
 use Rattle.caller.specs.Reasons.{number_of}
 use Rattle.caller.specs.Refusals as refusals
 use Rattle.codec_select.specs.declared.selection.Decision.{Decision}
@@ -23,3 +23,9 @@ decision_text (Refused refusal) r1 r2 = line_text (bytes_of "S refused") (refusa
 -- the answer of selection alone
 abbrev pub selection_text : Selection → List ℕ
 selection_text selection = decision_text selection.decision selection.r1 selection.r2
+
+-- the text is that of some answer of a kind
+pub record WritesSelection (OfKind : Selection → Type 0) (text : List ℕ) : Type 0 where
+  pub selection : Selection
+  pub of_kind : OfKind selection
+  pub is_text : text ≡ selection_text selection

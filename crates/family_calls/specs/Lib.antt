@@ -2,3 +2,4 @@ pub mod Columns
 pub mod Ledgers
 pub mod Room
 pub mod Short
+pub mod Written

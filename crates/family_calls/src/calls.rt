@@ -2,6 +2,7 @@
 ghost use Rattle.family_text.specs.Shown.{family_in};
 ghost use Rattle.family_calls.specs.Ledgers.{HandedOn};
 ghost use Rattle.family_calls.specs.Short.{Short};
+ghost use Rattle.family_calls.specs.Written.{AnswersFamily};
 
 use crate::columns::Columns;
 use codec_caller::choosing::select_fates;
@@ -16,6 +17,7 @@ use ledger_lines::settings::Handed;
 pub fn call_family(family: &Family<'_>, handed: &mut Handed, columns: &mut Columns) -> Answer
     ensures handed_on { HandedOn (family_in family.now) handed.old handed.new }
     ensures short { Short result }
+    ensures answered { AnswersFamily (family_in family.now) handed.old result }
 {
     let header = family.header;
     let gathered = gather(family.records, header.records);

@@ -6,6 +6,7 @@ ghost use Rattle.answer_text.specs.FamilyText.{family_text, Answered};
 ghost use Rattle.answer_text.specs.Left.{left_shown};
 ghost use Rattle.answer_text.specs.SampleText.{sample_text};
 ghost use Rattle.family_calls.specs.Ledgers.{HandedOn};
+ghost use Rattle.family_calls.specs.Written.{WritesAnswer};
 
 use answer_text::left::Left;
 use answer_text::{family_answer, sample_line};
@@ -37,6 +38,8 @@ impl Service for Answers {
     ghost ROOM = { 113239 };
 
     ghost hands_on = { HandedOn };
+
+    ghost writes = { λ number family before after. WritesAnswer (λ answer left. family_text answer left ++ sample_text after.sample after.samples) family before };
 
     fn answer(page: &mut Page, _number: u64, family: &Family<'_>, handed: &mut Handed) {
         let mut columns = Columns::new();

@@ -18,7 +18,7 @@ use std::io::{Read, Seek};
 use table_text::page::Page;
 
 // Room for the longest answer, and for many of the usual ones.
-const OUTPUT_BYTES: usize = 262144;
+pub const OUTPUT_BYTES: usize = 262144;
 
 // What goes from family to family: what the next is handed, and its number.
 #[derive(Clone, Copy)]
@@ -37,7 +37,7 @@ fn answer_next<S: Service, R: Print + Eprint>(
     page: &mut Page,
 ) -> Result<usize, Stop>
     requires at_in_bounds { at < length text.now }
-    requires roomy { 262144 ≤ length page.old.bytes.now }
+    requires roomy { S.ROOM ≤ length page.old.bytes.now }
     ensures kept { KeepsBuffer page.old page.new }
     ensures onward { IfOk result (λ after. (at < after) × (after ≤ length text.now)) }
     ensures within { IfErr result (λ stop. stop_place stop ≤ length text.now) }
@@ -65,7 +65,7 @@ fn answer_window<S: Service, R: Print + Eprint>(
     page: &mut Page,
 ) -> Result<usize, Malformed>
     requires text_nonzero { 0 < length text.now }
-    requires roomy { 262144 ≤ length page.old.bytes.now }
+    requires roomy { S.ROOM ≤ length page.old.bytes.now }
     ensures kept { KeepsBuffer page.old page.new }
     ensures onward { IfOk result (λ after. (0 < after) × (after ≤ length text.now)) }
     ensures within { IfErr result (λ malformed. malformed.place ≤ length text.now) }
@@ -86,17 +86,18 @@ fn answer_window<S: Service, R: Print + Eprint>(
     Ok(at)
 }
 
-// Reads the families of a file that has so many bytes, and answers each.
-pub fn read_families<S: Service, R: Print + Eprint, F: Read + Seek>(
+// Reads the families of a file that has so many bytes, and answers each through the output that is lent.
+pub fn read_windows<S: Service, R: Print + Eprint, F: Read + Seek>(
     rt: &R,
     file: &mut F,
     size: usize,
+    output: &mut [u8],
 ) -> Result<(), Unread>
-    requires { size < 2 ^ 63 }
+    requires size_is_small { size < 2 ^ 63 }
+    requires roomy { S.ROOM ≤ length output.old }
 {
     let mut window = [0u8; windows::WINDOW_BYTES];
-    let mut output = [0u8; OUTPUT_BYTES];
-    let mut page = Page::new(&mut output);
+    let mut page = Page::new(output);
     let mut room = Room::new();
     let mut course = Course {
         handed: Handed::default(),
@@ -121,4 +122,28 @@ pub fn read_families<S: Service, R: Print + Eprint, F: Read + Seek>(
     }
     S::end(rt, &mut page, &course.handed);
     Ok(())
+}
+
+// An output in which each service has room.
+fn read_wide<S: Service, R: Print + Eprint, F: Read + Seek>(
+    rt: &R,
+    file: &mut F,
+    size: usize,
+    output: &mut [u8],
+) -> Result<(), Unread>
+    requires size_is_small { size < 2 ^ 63 }
+    requires roomy { 262144 ≤ length output.old }
+{
+    read_windows::<S, R, F>(rt, file, size, output)
+}
+
+// The same with an output of its own.
+pub fn read_families<S: Service, R: Print + Eprint, F: Read + Seek>(
+    rt: &R,
+    file: &mut F,
+    size: usize,
+) -> Result<(), Unread>
+    requires { size < 2 ^ 63 }
+{
+    read_wide::<S, R, F>(rt, file, size, &mut [0; OUTPUT_BYTES])
 }

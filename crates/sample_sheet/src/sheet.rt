@@ -1,4 +1,5 @@
 // Nothing of a family, and behind the last the samples' sheet.
+ghost use Rattle.std.specs.Prelude.{[], ◌≡◌};
 ghost use Rattle.std.proofs.Math.Dec.{lit≤};
 ghost use Rattle.family_calls.specs.Ledgers.{HandedOn};
 
@@ -18,6 +19,8 @@ impl Service for SheetAlone {
     ghost ROOM = { 0 };
 
     ghost hands_on = { HandedOn };
+
+    ghost writes = { λ number family before after text. text ≡ [] };
 
     fn answer(_page: &mut Page, _number: u64, family: &Family<'_>, handed: &mut Handed) {
         let _answer = call_family(family, handed, &mut Columns::new());

@@ -8,6 +8,9 @@ use crate::selecting::Selecting;
 use family_windows::files;
 use std::io;
 
+// Room for many answers.
+const OUTPUT_BYTES: usize = 65536;
+
 fn main(rt: HostRuntime) -> io::Result<()> {
-    files::run::<Selecting, HostRuntime>(&rt)
+    files::run_through::<Selecting, HostRuntime>(&rt, &mut [0; OUTPUT_BYTES])
 }

@@ -1,6 +1,8 @@
 // What selection alone answers to each family.
 ghost use Rattle.std.specs.Prelude.{◌≡◌};
 ghost use Rattle.std.proofs.Math.Dec.{lit≤};
+ghost use Rattle.answer_text.specs.SelectionText.{WritesSelection};
+ghost use Rattle.record_selection.specs.Selecting.{Selects};
 
 use answer_text::selection_text;
 use codec_records::columns::gather;
@@ -20,6 +22,8 @@ impl Service for Selecting {
     ghost ROOM = { 433 };
 
     ghost hands_on = { λ family before after. after ≡ before };
+
+    ghost writes = { λ number family before after. WritesSelection (Selects family.header.options family.header.records family.records family.words) };
 
     fn answer(page: &mut Page, _number: u64, family: &Family<'_>, _handed: &mut Handed) {
         let header = family.header;

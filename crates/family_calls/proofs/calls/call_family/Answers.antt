@@ -8,7 +8,7 @@ use Rattle.codec_records.specs.declared.records.Record.{Record}
 use Rattle.codec_caller.specs.Settling.{Chose, Selected}
 use Rattle.family_text.specs.Shown.{family_in}
 use Rattle.family_calls.specs.Ledgers.{records_of}
-use Rattle.family_calls.proofs.Ledgers.{kept_for}
+use Rattle.family_calls.proofs.Ledgers.{kept_for, answers_for}
 use Rattle.family_calls.proofs.Records.{gathered}
 use Rattle.family_calls.proofs.Short.{answer_short}
 use Rattle.family_calls.proofs.calls.call_family.Goals as goal
@@ -49,3 +49,9 @@ pub returns-clause-short : goal.returns-clause-short
 returns-clause-short c =
     let family = chosen (goal.at.returns-clause-short c).After-select_fates-chosen in
     answer_short _ _ _ _ c.consensus_reads_sampled-answer.result _ (c.consensus_reads_sampled-answer.ensures.called family.records family.ops family.size family.selected)
+
+pub returns-clause-answered : goal.returns-clause-answered
+returns-clause-answered c =
+    let family = chosen (goal.at.returns-clause-answered c).After-select_fates-chosen in
+    let called = c.consensus_reads_sampled-answer.ensures.called family.records family.ops family.size family.selected in
+    rw (← c.unwrap_or-sample.ensures) (answers_for (family_in c.args.family.now) c.unwrap_or-sample.result _ _ _ _ c.consensus_reads_sampled-answer.result _ c.lend-lent.ensures called)

@@ -1,7 +1,7 @@
 -- The offset grows at each turn and stays within the file; no more lines are passed than bytes; the page keeps its buffer.
 use Rattle.std.proofs.Common.{◌-◌, ◌≤◌}
 use Rattle.family_windows.specs.Pages.{KeepsBuffer}
-use Rattle.family_windows.proofs.passes.read_families.Given as goal
+use Rattle.family_windows.proofs.passes.read_windows.Given as goal
 
 abbrev pub invariant-loop-offset : goal.invariant-loop-offset
 invariant-loop-offset g l = record {
