@@ -1,5 +1,5 @@
 // Steps 1 and 2: the records that pair up by name, and the two sides that they enter.
-ghost use Rattle.std.specs.Prelude.{true, None, Some, ◌≡◌, ℕ, ◌+◌, [], ◌∷◌, ◌≤◌, ◌<◌, if◌then◌else◌, length, get_or, IfNone, IfSome};
+ghost use Rattle.std.specs.Prelude.{true, false, None, Some, ◌≡◌, ℕ, ◌+◌, [], ◌∷◌, ◌≤◌, ◌<◌, if◌then◌else◌, length, get_or, IfNone, IfSome};
 ghost use Rattle.lists.specs.Tabulate.{tabulate};
 ghost use Rattle.lists.specs.Written.{written};
 ghost use Rattle.codec_pairing.specs.Pairing.{not_primary, remains};
@@ -57,8 +57,19 @@ fn has_namesake_between(family: &Family, name: u32, from: usize, to: usize) -> b
     any
 }
 
-// The first such record. They are gone through only where there is one: mostly none has the name at all, and one that has it may not
-// remain. A for: of find the check does not see that none is passed over.
+// Whether such a record may stand there: no is sure. Names alone are asked first, since mostly none has the name at all, and one that has
+// it may not remain.
+fn some_between(family: &Family, name: u32, from: usize, to: usize) -> bool
+    requires { (from ≤ to) × (to ≤ length family.now.flags.now) }
+    ensures { result ≡ false → namesakes_from family.now name from ≡ namesakes_from family.now name to }
+{
+    if !has_name(&family.names[from..to], name) {
+        return false;
+    }
+    has_namesake_between(family, name, from, to)
+}
+
+// The first such record. They are gone through only where there is one. A for: of find the check does not see that none is passed over.
 fn first_between(family: &Family, name: u32, from: usize, to: usize) -> Option<usize>
     requires { (from ≤ to) × (to ≤ length family.now.flags.now) }
     ensures none { IfNone result (namesakes_from family.now name from ≡ namesakes_from family.now name to) }
@@ -66,13 +77,28 @@ fn first_between(family: &Family, name: u32, from: usize, to: usize) -> Option<u
     ensures found { IfSome result (λ r. is_namesake family.now name r ≡ true) }
     ensures within { IfSome result (λ r. (from ≤ r) × (r < to)) }
 {
-    if !has_name(&family.names[from..to], name) {
-        return None;
-    }
-    if !has_namesake_between(family, name, from, to) {
+    if !some_between(family, name, from, to) {
         return None;
     }
     for i in from..to {
+        if is_namesake(family, name, i) {
+            return Some(i);
+        }
+    }
+    None
+}
+
+// The last such record, likewise: mostly the nearest.
+fn last_between(family: &Family, name: u32, from: usize, to: usize) -> Option<usize>
+    requires { (from ≤ to) × (to ≤ length family.now.flags.now) }
+    ensures none { IfNone result (namesakes_from family.now name from ≡ namesakes_from family.now name to) }
+    ensures found { IfSome result (λ r. is_namesake family.now name r ≡ true) }
+    ensures within { IfSome result (λ r. (from ≤ r) × (r < to)) }
+{
+    if !some_between(family, name, from, to) {
+        return None;
+    }
+    for i in (from..to).rev() {
         if is_namesake(family, name, i) {
             return Some(i);
         }
@@ -107,7 +133,7 @@ fn has_namesake(family: &Family, name: u32, from: usize) -> bool
     has_name(&family.names[from..], name) && next_namesake(family, name, from).is_some()
 }
 
-// A record of record i's name that remains before it: one of the nearest 64 that hold any.
+// The last record of record i's name that remains before it.
 fn previous_namesake(family: &Family, i: usize) -> Option<usize>
     requires { i < length family.now.flags.now }
     ensures none { IfNone result (namesakes_from family.now (name_of family.now i) 0 ≡ namesakes_from family.now (name_of family.now i) i) }
@@ -121,7 +147,7 @@ fn previous_namesake(family: &Family, i: usize) -> Option<usize>
     let mut end = i;
     while 0 < end {
         let start = end - end.min(64);
-        if let Some(k) = first_between(family, name, start, end) {
+        if let Some(k) = last_between(family, name, start, end) {
             return Some(k);
         }
         end = start;

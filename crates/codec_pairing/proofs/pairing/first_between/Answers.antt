@@ -1,14 +1,10 @@
 -- No record of the name that remains stands between the first looked at and record i.
 use Rattle.std.proofs.Common.{◌≡◌, ◌∙◌, sym, arith}
-use Rattle.codec_pairing.proofs.Namesakes.{found_here, passed_here, none_between, none_named_between}
+use Rattle.codec_pairing.proofs.Namesakes.{found_here, passed_here}
 use Rattle.codec_pairing.proofs.pairing.first_between.Goals as goal
 
-pub returns-then-not-has_name-clause-none : goal.returns-then-not-has_name-clause-none
-returns-then-not-has_name-clause-none c =
-    none_named_between _ _ _ c.args.from c.args.to (omega arith) (omega arith) c.args.family.now.alike.as_many_names (sym c.has_name.ensures ∙ c.if-not-has_name.true)
-
-pub returns-then-not-has_namesake_between-clause-none : goal.returns-then-not-has_namesake_between-clause-none
-returns-then-not-has_namesake_between-clause-none c = none_between _ _ _ c.args.from c.args.to (omega arith) (omega arith) (sym c.has_namesake_between.ensures ∙ c.if-not-has_namesake_between.true)
+pub returns-then-not-some_between-clause-none : goal.returns-then-not-some_between-clause-none
+returns-then-not-some_between-clause-none c = c.some_between.ensures c.if-not-some_between.true
 
 pub returns-then-is_namesake-clause-next : goal.returns-then-is_namesake-clause-next
 returns-then-is_namesake-clause-next c = c.loop-i.invariant ∙ found_here _ _ _ _ (omega arith) (sym c.is_namesake.ensures ∙ c.if-is_namesake.true)
