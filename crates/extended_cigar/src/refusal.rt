@@ -3,7 +3,7 @@ ghost use Rattle.std.specs.Prelude.{◌≡◌};
 ghost use Rattle.extended_cigar.specs.Extended.{is_extended};
 ghost use Rattle.extended_cigar.specs.Refusals.{number_of, is_plain, bad_plain_words, bad_extended_words, lowest, past_plain_limits, past_extended_limits, refusal_there, refusal_back};
 
-use raw_bam::cigar::{is_operation, read_length_from_cigar, reference_length_from_cigar};
+use raw_bam::cigar::{bases_of_cigar, is_operation, read_length_from_cigar};
 
 const OUTPUT_WORDS: usize = 2048;
 
@@ -60,9 +60,8 @@ fn is_past_plain_limits(words: &[u32], read: usize, reference: usize) -> bool
     if 64 < words.len() {
         return true;
     }
-    let read_bases = read_length_from_cigar(words);
-    let reference_bases = reference_length_from_cigar(words);
-    1024 < read_bases || read as u64 != read_bases || reference as u64 != reference_bases
+    let bases = bases_of_cigar(words);
+    1024 < bases.read || read as u64 != bases.read || reference as u64 != bases.reference
 }
 
 #[tactic(auto, unfolding(crate::specs::Refusals::past_extended_limits))]

@@ -57,3 +57,19 @@ pub fn reference_length_from_cigar(ops: &[u32]) -> u64
 {
     ops.iter().map(|word| bases_of(*word).reference).sum()
 }
+
+// Both in one pass, since a list that is converted is asked for both.
+pub fn bases_of_cigar(ops: &[u32]) -> Bases
+    requires { length ops.now ≤ 8192 }
+    ensures read { result.read ≡ read_length ops.now }
+    ensures reference { result.reference ≡ reference_length ops.now }
+{
+    let mut read = 0;
+    let mut reference = 0;
+    for &word in ops {
+        let bases = bases_of(word);
+        read += bases.read;
+        reference += bases.reference;
+    }
+    Bases { read, reference }
+}

@@ -66,7 +66,7 @@ loop-word-preserved c =
     let reference_split = c.split_at-in-loop-word.ensures in
     let few = length_word c.split_at.result.0.now c.split_at-in-loop-word.result.0.now 0 0 word in (
       done ++ own,
-      append_assoc done own _ ∙ rw (split.front, split.back, reference_split.front, reference_split.back, bases.read, bases.reference) more,
+      append_assoc done own _ ∙ (cc more),
       rw length-append (omega (arith, so_far.2, c.write_word-n.ensures.count)),
       rw (c.write_word-n.ensures.stored, so_far.3, so_far.2) (written_behind done own c.args.output.now),
       omega (arith, l.read, split.back_len, bases.read),
