@@ -1,5 +1,5 @@
 // CIGARs as SAM writes them, as 8M2I4M, or * for none.
-ghost use Rattle.std.specs.Prelude.{◌≤◌, length};
+ghost use Rattle.std.specs.Prelude.{◌≤◌, ◌<◌, length};
 
 use std::fmt;
 
@@ -9,7 +9,9 @@ const LETTERS: [u8; 9] = [b'M', b'I', b'D', b'N', b'S', b'H', b'P', b'=', b'X'];
 // The code of every other letter, which is no operation.
 const NO_CODE: u32 = 15;
 
-fn code_of(letter: u8) -> u32 {
+fn code_of(letter: u8) -> u32
+    ensures { result < 16 }
+{
     match LETTERS.iter().position(|own| *own == letter) {
         Some(code) => code as u32,
         None => NO_CODE,

@@ -1,37 +1,42 @@
 // Plain and extended lists: what each way gives.
 use crate::cigar::{Cigar, Listed};
-use extended_cigar::convert::{extend_cigar, flatten_cigar};
+use extended_cigar::convert::{CigarAnswer, extend_cigar, flatten_cigar};
 use extended_cigar::refusal::CigarRefusal;
 use std::{array, io};
 
 const ROOM: usize = 2048;
 
-fn put_refusal(rt: &impl Print, refusal: CigarRefusal) -> io::Result<()> {
-    print!(rt; "refused {} 0", u32::from(refusal))
+// The words that a host finds, or the answer that refuses them.
+fn told(answer: CigarAnswer, output: &[u32; ROOM]) -> Result<&[u32], CigarAnswer> {
+    if answer.kind == 0 {
+        Ok(&output[..ROOM.min(answer.count as usize)])
+    } else {
+        Err(answer)
+    }
+}
+
+fn put_refusal(rt: &impl Print, answer: CigarAnswer) -> io::Result<()> {
+    print!(rt; "refused {} {}", answer.number, answer.with)
 }
 
 fn put_back(rt: &impl Print, words: &[u32]) -> io::Result<()> {
     let mut output = [0; ROOM];
-    match flatten_cigar(words, &mut output) {
-        Ok(count) => print!(rt;
-            "{}",
-            Listed {
-                entries: &output[..count.min(ROOM)]
-            }
-        ),
-        Err(refusal) => put_refusal(rt, refusal),
+    let answer = CigarAnswer::from(flatten_cigar(words, &mut output));
+    match told(answer, &output) {
+        Ok(plain) => print!(rt; "{}", Listed { entries: plain }),
+        Err(answer) => put_refusal(rt, answer),
     }
 }
 
 fn put_there(rt: &impl Print, words: &[u32], read: &[u8], reference: &[u8]) -> io::Result<()> {
     let mut output = [0; ROOM];
-    match extend_cigar(words, read, reference, &mut output) {
-        Ok(count) => {
-            let extended = &output[..count.min(ROOM)];
+    let answer = CigarAnswer::from(extend_cigar(words, read, reference, &mut output));
+    match told(answer, &output) {
+        Ok(extended) => {
             print!(rt; "{} back ", Listed { entries: extended })?;
             put_back(rt, extended)
         }
-        Err(refusal) => put_refusal(rt, refusal),
+        Err(answer) => put_refusal(rt, answer),
     }
 }
 
@@ -55,13 +60,13 @@ fn show_count(
     title: &str,
     converted: Result<usize, CigarRefusal>,
 ) -> io::Result<()> {
+    let answer = CigarAnswer::from(converted);
     print!(rt; "{title} ")?;
-    match converted {
-        Ok(count) => println!(rt; "{count} words"),
-        Err(refusal) => {
-            put_refusal(rt, refusal)?;
-            println!(rt; "")
-        }
+    if answer.kind == 0 {
+        println!(rt; "{} words", answer.count)
+    } else {
+        put_refusal(rt, answer)?;
+        println!(rt; "")
     }
 }
 

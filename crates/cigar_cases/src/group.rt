@@ -26,20 +26,18 @@ fn copy_operations(read: Read<'_>, ops: &mut [u32; 192], start: usize) -> u32
     words.len() as u32
 }
 
-// Which of three records stay.
+// Which of three records stay; their operations are written one after the other, so that a part read too long shows.
 pub fn show_group(rt: &impl Print, reads: [Read<'_>; 3]) -> io::Result<()> {
     let [a, b, c] = reads;
     let mut ops = [0; 192];
-    let counts = [
-        copy_operations(a, &mut ops, 0),
-        copy_operations(b, &mut ops, 64),
-        copy_operations(c, &mut ops, 128),
-    ];
+    let first = copy_operations(a, &mut ops, 0);
+    let second = copy_operations(b, &mut ops, first as usize);
+    let third = copy_operations(c, &mut ops, (first + second) as usize);
     let side = Side {
         ops: &ops,
         clipped: &[a.clipped, b.clipped, c.clipped],
-        starts: &[0, 64, 128],
-        counts: &counts,
+        starts: &[0, first, first + second],
+        counts: &[first, second, third],
         reverse: &[a.reverse, b.reverse, c.reverse],
     };
     let mut stays = [false; 3];
