@@ -16,8 +16,8 @@ fn base_word(base: u8, under: u8) -> u32
     if base == under { 23 } else { 24 }
 }
 
-// Writes the words of one M, neighbours of one kind joined, and answers how many. The last word is kept at hand: read back from the
-// output at each base, a long M takes half as long again.
+// Writes the words of one M, neighbours of one kind joined, and answers how many. The last word is at hand, and stored as the next one
+// begins: where it is read back and stored at each base, a long M takes half as long again.
 fn write_match(read: &[u8], reference: &[u8], output: &mut [u32]) -> usize
     requires few { length read.now ≤ 1024 }
     requires as_many { length reference.now ≡ length read.now }
@@ -25,19 +25,24 @@ fn write_match(read: &[u8], reference: &[u8], output: &mut [u32]) -> usize
     ensures count { result ≡ length (joined (base_by_base read.now reference.now 0 0 (length read.now))) }
     ensures stored { output.new ≡ written (joined (base_by_base read.now reference.now 0 0 (length read.now))) output.old }
 {
-    let mut last = 0;
+    let bases = read.len();
+    if bases == 0 {
+        return 0;
+    }
+    let mut last = base_word(read[0], reference[0]);
     let mut n = 0;
-    for (k, &base) in read.iter().enumerate() {
-        let word = base_word(base, reference[k]);
-        if 0 < n && last % 16 == word % 16 {
+    for k in 1..bases {
+        let word = base_word(read[k], reference[k]);
+        if last % 16 == word % 16 {
             last += word / 16 * 16;
         } else {
-            last = word;
+            output[n] = last;
             n += 1;
+            last = word;
         }
-        output[n - 1] = last;
     }
-    n
+    output[n] = last;
+    n + 1
 }
 
 // Writes the words of one operation: those of an M by its bases, any other as it is.
