@@ -69,14 +69,18 @@ fn some_between(family: &Family, name: u32, from: usize, to: usize) -> bool
     has_namesake_between(family, name, from, to)
 }
 
-// The first such record. They are gone through only where there is one. A for: of find the check does not see that none is passed over.
+// The first such record. The nearest is asked first, since a pair mostly stands side by side; the others are gone through only where there
+// is one. A for: of find the check does not see that none is passed over.
 fn first_between(family: &Family, name: u32, from: usize, to: usize) -> Option<usize>
-    requires { (from ≤ to) × (to ≤ length family.now.flags.now) }
+    requires { (from < to) × (to ≤ length family.now.flags.now) }
     ensures none { IfNone result (namesakes_from family.now name from ≡ namesakes_from family.now name to) }
     ensures next { IfSome result (λ r. namesakes_from family.now name from ≡ r ∷ namesakes_from family.now name (r + 1)) }
     ensures found { IfSome result (λ r. is_namesake family.now name r ≡ true) }
     ensures within { IfSome result (λ r. (from ≤ r) × (r < to)) }
 {
+    if is_namesake(family, name, from) {
+        return Some(from);
+    }
     if !some_between(family, name, from, to) {
         return None;
     }
@@ -88,13 +92,16 @@ fn first_between(family: &Family, name: u32, from: usize, to: usize) -> Option<u
     None
 }
 
-// The last such record, likewise: mostly the nearest.
+// The last such record, likewise.
 fn last_between(family: &Family, name: u32, from: usize, to: usize) -> Option<usize>
-    requires { (from ≤ to) × (to ≤ length family.now.flags.now) }
+    requires { (from < to) × (to ≤ length family.now.flags.now) }
     ensures none { IfNone result (namesakes_from family.now name from ≡ namesakes_from family.now name to) }
     ensures found { IfSome result (λ r. is_namesake family.now name r ≡ true) }
     ensures within { IfSome result (λ r. (from ≤ r) × (r < to)) }
 {
+    if is_namesake(family, name, to - 1) {
+        return Some(to - 1);
+    }
     if !some_between(family, name, from, to) {
         return None;
     }

@@ -10,7 +10,7 @@ loop-i-preserved c =
     let next : c.loop-i.i - 1 + 1 ≡ c.loop-i.i = omega arith in
     record {
       order = omega arith;
-      passed = rw next at (passed_here _ _ _ (c.loop-i.i - 1) (omega arith) (sym c.is_namesake.ensures ∙ c.if-is_namesake.false)) ∙ c.loop-i.invariant.passed;
+      passed = rw next at (passed_here _ _ _ (c.loop-i.i - 1) (omega arith) (sym c.is_namesake-in-loop-i.ensures ∙ c.if-is_namesake-2.false)) ∙ c.loop-i.invariant.passed;
     }
 
 pub returns-clause-none : goal.returns-clause-none
