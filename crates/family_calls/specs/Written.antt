@@ -1,4 +1,4 @@
--- What a program writes of a family: a text of the answer to its call, and of what the call left in the columns.
+-- What a program writes of a family: a text of the answer to its call, and of columns that are lent. What the call left in them is not said.
 use Rattle.std.specs.Prelude.{List, ◌≡◌, ℕ, length, unwrap_or}
 use Rattle.codec_family.specs.Answer.{reported}
 use Rattle.codec_family.specs.Call.{Lent}
@@ -22,7 +22,7 @@ pub record Answers (c : SampledCall) (books : Books) (answer : Answer) : Type 0 
 abbrev pub AnswersFamily : Family → Handed → Answer → Type 0
 AnswersFamily f handed = Answers (sampled_call_of (call_for f) (unwrap_or handed.sample 0)) (books_of handed.ledger handed.samples)
 
--- the text is that of the answer to the family's call, and of columns that the call left
+-- the text is that of the answer to the family's call, and of some columns with room for it
 pub record WritesAnswer (text_of : Answer → Lent → List ℕ) (f : Family) (handed : Handed) (text : List ℕ) : Type 0 where
   pub answer : Answer
   pub left : Lent
